@@ -1,0 +1,9 @@
+pub mod Positive
+pub mod Count
+pub mod Gcd
+pub mod Bezout
+pub mod HandOver
+pub mod Rates
+pub mod Timetable
+pub mod Examples
+pub mod Once

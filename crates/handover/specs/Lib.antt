@@ -1,0 +1,4 @@
+pub mod Supply
+pub mod Gcd
+pub mod Law
+pub mod Once

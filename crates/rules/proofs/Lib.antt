@@ -1,0 +1,16 @@
+pub mod Differences
+pub mod Decide
+pub mod Chains
+pub mod Tested
+pub mod Examples
+pub mod Paces
+pub mod Potential
+pub mod Listed
+pub mod Existence
+pub mod Fastest
+pub mod Meaning
+pub mod Sizes
+pub mod Links
+pub mod Turned
+pub mod Soundness
+pub mod Alone

@@ -1,0 +1,6 @@
+pub mod EdgeReads
+pub mod Order
+pub mod Bounds
+pub mod Stepping
+pub mod Histories
+pub mod Walking

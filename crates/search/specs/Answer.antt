@@ -1,0 +1,24 @@
+-- What the search answers. Assumes nothing.
+use mathlib.Core.Path.{_≡_}
+use mathlib.Core.Bool.{Bool}
+use mathlib.Core.List.{List}
+use Prim.Native.Nat.{ℕ, _≤_}
+use lib.ListN.{take, length}
+use Rattle.search.specs.declared.Edge.{Edge}
+use Rattle.search.specs.declared.Round.{Round}
+use Rattle.search.specs.declared.Outcome.{Outcome}
+use Rattle.search.specs.declared.Outcome.the-variants.{Starts, Above}
+use Rattle.search.specs.Terms.{LeastStarts, EdgeCircuit}
+
+-- The edges of a round, in their order.
+abbrev pub around : Round → List ℕ
+around w = take (w .count) (w .edges)
+
+-- Its count stays within its list.
+abbrev pub Whole : Round → Type 0
+Whole w = (length (w .edges) ≡ 64) × (w .count ≤ 64)
+
+-- LeastStarts starts, or a circuit above neutral.
+abbrev pub Answered : {L : Type 0} → L → (L → L → L) → (L → L → Bool) → ℕ → List (Edge L) → List L → Outcome → Type 0
+Answered neutral joined below nodes es starts Starts = LeastStarts neutral joined below nodes es starts
+Answered neutral joined below nodes es starts (Above w) = Whole w × EdgeCircuit neutral joined below es (around w)
