@@ -1,5 +1,8 @@
 // A net as programs hold it: stations with durations and rates, links by number, and the pace. Plain values; what is known of them is said by the types above.
 
+pub mod checked;
+pub mod sound;
+
 // The stations that a link leads from and to.
 #[derive(Clone, Copy)]
 pub struct LinkEnds {
