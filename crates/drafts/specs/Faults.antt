@@ -28,6 +28,11 @@ judged which low high value = cond (outside low high value) (Err (Range which)) 
 abbrev pub placed : ℕ → ℕ → ℕ → Result ℕ DraftFault
 placed which stations value = cond (leb stations value) (Err (Range which)) (Ok value)
 
+-- The fault of a check, if there is one.
+abbrev pub faulted : Result (Unit {0}) DraftFault → Option DraftFault
+faulted (Ok _) = None
+faulted (Err f) = Some f
+
 -- The first of two faults, if there is one.
 abbrev pub or-else : Option DraftFault → Option DraftFault → Option DraftFault
 or-else None g = g

@@ -1,8 +1,7 @@
 -- What the stages of a draft take and refuse, and when they move on. Assumes nothing.
 use mathlib.Core.Path.{_≡_}
-use mathlib.Core.Bool.{Bool}
 use Prim.Native.Nat.{ℕ, _+_, _<_}
-use lib.Dec.{leb, ltb}
+use lib.Dec.{leb}
 use lib.ListN.{replicate, set}
 use Rattle.std.specs.Results.{Cases}
 use Rattle.std.specs.declared.option.Option.{Option}
@@ -18,8 +17,9 @@ use Rattle.drafts.specs.declared.stage.Ends.{Ends}
 use Rattle.drafts.specs.declared.stage.Terms.{Terms}
 use Rattle.drafts.specs.declared.stage.Filled.{Filled}
 use Rattle.drafts.specs.declared.fault.DraftFault.{DraftFault}
-use Rattle.drafts.specs.declared.fault.DraftFault.the-variants.{Range, Missing, PastSize, Capacity}
-use Rattle.drafts.specs.Faults.{or-else, fault-if, range-fault, station-fault}
+use Rattle.drafts.specs.declared.fault.DraftFault.the-variants.{Missing, PastSize}
+use Rattle.drafts.specs.Faults.{or-else, fault-if}
+use Rattle.drafts.specs.Entries.{sizes-fault, duration-fault, ends-fault, terms-fault, room-fault}
 
 -- Tables that hold nothing yet, and sizes that were not given yet.
 abbrev pub blank : Tables
@@ -35,33 +35,6 @@ no-sizes = record { stations = 0; links = 0; pace = record { share = 0; unit = 0
 -- An entry past the size: so many are held.
 abbrev pub past : ℕ → ℕ → Option DraftFault
 past size held = fault-if (leb size held) (PastSize size)
-
--- The first fault of an entry by itself, in the order of its numbers.
-abbrev pub sizes-fault : NetSizes → Option DraftFault
-sizes-fault e =
-    or-else (range-fault 1 1 64 (e .stations))
-    (or-else (range-fault 2 0 128 (e .links))
-    (or-else (range-fault 3 1 1_000_000 (e .pace .share)) (range-fault 4 1 10_000_000_000 (e .pace .unit))))
-
-abbrev pub duration-fault : ℕ → Option DraftFault
-duration-fault d = range-fault 1 1 10_000 d
-
-abbrev pub ends-fault : ℕ → LinkEnds → Option DraftFault
-ends-fault stations e = or-else (station-fault 1 stations (e .from)) (station-fault 2 stations (e .to))
-
--- A capacity that is out of range, and then one that is below the stock.
-abbrev pub capacity-fault : Option ℕ → Option DraftFault
-capacity-fault None = None
-capacity-fault (Some c) = range-fault 4 0 10_000 c
-
-abbrev pub full-fault : ℕ → ℕ → Option ℕ → Option DraftFault
-full-fault link stock None = None
-full-fault link stock (Some c) = fault-if (ltb c stock) (Capacity link)
-
-abbrev pub terms-fault : LinkTerms → Option DraftFault
-terms-fault t =
-    or-else (range-fault 1 1 1_000 (t .produced))
-    (or-else (range-fault 2 1 1_000 (t .consumed)) (or-else (range-fault 3 0 10_000 (t .stock)) (capacity-fault (t .capacity))))
 
 -- An entry that is taken stands at the next place, and all else is as it was. The checks are: past the size, out of range, capacity below the stock.
 -- A refused entry changes nothing, and the fault told is the first one.
@@ -89,10 +62,10 @@ TookEnds s t e r s′ t′ =
 abbrev pub TookTerms : Terms → Tables → LinkTerms → Result (Unit {0}) DraftFault → Terms → Tables → Type 0
 TookTerms s t e r s′ t′ =
     Cases r
-    (λ _. (or-else (past (s .sizes .links) (s .held)) (or-else (terms-fault e) (full-fault (s .held) (e .stock) (e .capacity))) ≡ None)
+    (λ _. (or-else (past (s .sizes .links) (s .held)) (or-else (terms-fault e) (room-fault (s .held) e)) ≡ None)
     × (s′ .sizes ≡ s .sizes) × (s′ .held ≡ s .held + 1)
     × (t′ ≡ record { durations = t .durations; ends = t .ends; terms = set (t .terms) (s .held) e }))
-    (λ f. (or-else (past (s .sizes .links) (s .held)) (or-else (terms-fault e) (full-fault (s .held) (e .stock) (e .capacity))) ≡ Some f)
+    (λ f. (or-else (past (s .sizes .links) (s .held)) (or-else (terms-fault e) (room-fault (s .held) e)) ≡ Some f)
     × (s′ ≡ s) × (t′ ≡ t))
 
 -- All entries are held, and the next stage holds none; or some are missing, and the stage comes back as it was.

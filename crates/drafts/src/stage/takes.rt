@@ -1,7 +1,11 @@
 ghost use mathlib.Core.Path.{_≡_};
 ghost use Rattle.drafts.specs.Stages.{TookSizes, TookDuration, TookEnds, TookTerms};
+use crate::entries::check_duration;
+use crate::entries::check_ends;
+use crate::entries::check_room;
+use crate::entries::check_sizes;
+use crate::entries::check_terms;
 use crate::fault::DraftFault;
-use crate::numbers;
 use crate::stage::Durations;
 use crate::stage::Ends;
 use crate::stage::NetSizes;
@@ -19,10 +23,7 @@ impl Sizes {
         if self.held >= 1 {
             return Err(DraftFault::PastSize(1));
         }
-        numbers::stations(entry.stations as u64)?;
-        numbers::links(entry.links as u64)?;
-        numbers::share(entry.pace.share as u64)?;
-        numbers::unit(entry.pace.unit)?;
+        check_sizes(entry)?;
         self.entry = entry;
         self.held = 1;
         Ok(())
@@ -37,7 +38,7 @@ impl Durations {
         if self.held >= self.sizes.stations {
             return Err(DraftFault::PastSize(self.sizes.stations));
         }
-        numbers::duration(duration as u64)?;
+        check_duration(duration)?;
         tables.durations[self.held as usize] = duration;
         self.held += 1;
         Ok(())
@@ -52,8 +53,7 @@ impl Ends {
         if self.held >= self.sizes.links {
             return Err(DraftFault::PastSize(self.sizes.links));
         }
-        numbers::station(1, self.sizes.stations, ends.from as u64)?;
-        numbers::station(2, self.sizes.stations, ends.to as u64)?;
+        check_ends(self.sizes.stations, ends)?;
         tables.ends[self.held as usize] = ends;
         self.held += 1;
         Ok(())
@@ -68,15 +68,8 @@ impl Terms {
         if self.held >= self.sizes.links {
             return Err(DraftFault::PastSize(self.sizes.links));
         }
-        numbers::batch(1, terms.produced as u64)?;
-        numbers::batch(2, terms.consumed as u64)?;
-        numbers::stock(terms.stock as u64)?;
-        if let Some(c) = terms.capacity {
-            numbers::capacity(c as u64)?;
-            if c < terms.stock {
-                return Err(DraftFault::Capacity(self.held));
-            }
-        }
+        check_terms(terms)?;
+        check_room(self.held, terms)?;
         tables.terms[self.held as usize] = terms;
         self.held += 1;
         Ok(())
