@@ -1,0 +1,3 @@
+// Reports of timetables and refusals, byte for byte.
+pub mod decimal;
+mod lines;
