@@ -7,9 +7,6 @@ use native.Mathlib.Omega.{arith}
 use lib.ListN.{length, take, drop, set, getD, length-append}
 use Rattle.std.specs.Joined.{joined}
 use Rattle.std.proofs.shelf.Lists.{append-assoc, take-at, take-all, drop-at, drop-drop, length-take-le, take-more, joined-more, drop-set-lt, take-more-set, take-append-drop}
-use lib.IntN.{pos}
-use Rattle.nets.specs.declared.CircuitStep.{CircuitStep}
-use Rattle.nets.specs.declared.Step.the-variants.{Forward}
 use Rattle.reports.specs.Pasted.{pasted, Wrote}
 
 -- a byte, and then a part behind it
@@ -77,9 +74,6 @@ module _ {X : Type 0} (f : X → List ℕ) where
   row-done xs o o′ a e i h W =
       let t = take-all i xs h in
       record { bytes = W .bytes ∙ ap (λ z. pasted o a (row z)) t; end = W .end ∙ ap (λ z. a + length (row z)) t }
-
-abbrev pub no-step : CircuitStep
-no-step = record { step = Forward 0; length = pos 0 }
 
 -- Three parts, one behind the other
 module _ (o : List ℕ) (a : ℕ) (x y z : List ℕ) (fits : a + length (x ++ y ++ z) ≤ length o) where

@@ -9,7 +9,7 @@ use mir.Val.{SFits, toZ, ofZ}
 use Rattle.std.proofs.shelf.Signed.{toZ-ofZ}
 use Rattle.reports.specs.Pasted.{Wrote}
 use Rattle.std.specs.Written.{signed}
-use Rattle.reports.proofs.Rows.{no-step}
+use Rattle.reports.specs.Steps.{no-step}
 use Rattle.reports.proofs.Rows.{wrote-none, wrote-cons, room, row-on, row-done}
 use Rattle.reports.proofs.lines.put_lengths.Needs as need
 

@@ -4,7 +4,7 @@ use native.Mathlib.Omega.{arith}
 use lib.ListN.{length, getD, length-set}
 use borrow.Author.Needs.{needs}
 use Rattle.reports.specs.Bytes.{step-bytes}
-use Rattle.reports.proofs.Rows.{no-step}
+use Rattle.reports.specs.Steps.{no-step}
 use Rattle.reports.proofs.Rows.{wrote-none, wrote-cons, room, row-on, row-done}
 use Rattle.reports.proofs.lines.put_steps.Needs as need
 
