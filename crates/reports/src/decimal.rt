@@ -35,7 +35,7 @@ fn power(k: usize) -> u64
 }
 
 // How many digits the number has.
-pub fn digit_count(n: u64) -> usize
+fn digit_count(n: u64) -> usize
     ensures { λ r. ⌜ r ≡ length (decimal n) ⌝ }
 {
     for k in 1..19 {

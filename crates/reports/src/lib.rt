@@ -1,5 +1,5 @@
 // Reports of timetables and refusals, byte for byte.
-pub mod decimal;
+mod decimal;
 mod lines;
 pub mod report;
 pub mod told;

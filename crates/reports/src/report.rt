@@ -5,7 +5,7 @@ ghost use lib.ListN.{length, getD, take};
 ghost use Rattle.reports.specs.Pasted.{Wrote};
 ghost use Rattle.reports.specs.Bytes.{timetable-bytes, circuit-bytes, refusal-bytes};
 ghost use Rattle.reports.specs.Steps.{step-number, no-step};
-ghost use Rattle.reports.specs.Reported.{Reported};
+ghost use Rattle.reports.specs.Reported.{Roomy, Reported};
 use crate::decimal::put_bytes;
 use crate::decimal::put_number;
 use crate::lines::count_line;
@@ -20,6 +20,16 @@ use nets::CircuitStep;
 #[derive(Clone, Copy)]
 pub struct ShortBuffer {
     pub length: usize,
+}
+
+// That the buffer can hold every report.
+fn enough_room(out: &[u8]) -> Result<(), ShortBuffer>
+    ensures { λ r. ⌜ Roomy (now (out .entry)) r ⌝ }
+{
+    if out.len() < 4_096 {
+        return Err(ShortBuffer { length: out.len() });
+    }
+    Ok(())
 }
 
 fn put_timetable(out: &mut [u8], stations: u8, starts: &[u64; 64], periods: &[u64; 64]) -> usize
@@ -62,9 +72,7 @@ fn put_refusal(out: &mut [u8], number: u8, place: Option<u64>) -> usize
 pub fn report_timetable(timetable: &Timetable, out: &mut [u8]) -> Result<usize, ShortBuffer>
     ensures { λ r. ⌜ Reported (timetable-bytes (now (timetable .entry) .stations) (take (now (timetable .entry) .stations) (now (timetable .entry) .starts)) (take (now (timetable .entry) .stations) (now (timetable .entry) .periods))) (now (out .entry)) (now (out .exit)) r ⌝ }
 {
-    if out.len() < 4_096 {
-        return Err(ShortBuffer { length: out.len() });
-    }
+    enough_room(out)?;
     Ok(put_timetable(
         out,
         timetable.stations,
@@ -77,9 +85,7 @@ pub fn report_timetable(timetable: &Timetable, out: &mut [u8]) -> Result<usize, 
 pub fn report_circuit(circuit: &Circuit, out: &mut [u8]) -> Result<usize, ShortBuffer>
     ensures { λ r. ⌜ Reported (circuit-bytes (take (now (circuit .entry) .count) (now (circuit .entry) .steps))) (now (out .entry)) (now (out .exit)) r ⌝ }
 {
-    if out.len() < 4_096 {
-        return Err(ShortBuffer { length: out.len() });
-    }
+    enough_room(out)?;
     Ok(put_circuit(out, circuit.count, &circuit.steps))
 }
 
@@ -87,8 +93,6 @@ pub fn report_circuit(circuit: &Circuit, out: &mut [u8]) -> Result<usize, ShortB
 pub fn report_refusal(number: u8, place: Option<u64>, out: &mut [u8]) -> Result<usize, ShortBuffer>
     ensures { λ r. ⌜ Reported (refusal-bytes number place) (now (out .entry)) (now (out .exit)) r ⌝ }
 {
-    if out.len() < 4_096 {
-        return Err(ShortBuffer { length: out.len() });
-    }
+    enough_room(out)?;
     Ok(put_refusal(out, number, place))
 }
