@@ -1,5 +1,6 @@
 pub mod EdgeReads
 pub mod Order
+pub mod Chains
 pub mod Bounds
 pub mod Stepping
 pub mod Histories

@@ -14,22 +14,11 @@ use Rattle.handover.proofs.Once.{over, is, once-count, count-once}
 use Rattle.search.specs.declared.Edge.{Edge}
 use Rattle.search.specs.Terms.{begins, ends, lasts, EdgeChain, total, EdgeCircuit}
 use Rattle.search.specs.Levels.{LowestAt, turned}
+use Rattle.search.proofs.Chains.{chain-join, chain-cut, chain-first, total-join}
 use Rattle.search.proofs.Bounds.{shut-along}
 use Rattle.search.proofs.Walking.{Rising}
 
 module _ {L : Type 0} (es : List (Edge L)) where
-  chain-join : (a b : List ℕ) (x y z : ℕ) → EdgeChain es x a y → EdgeChain es y b z → EdgeChain es x (a ++ b) z
-  chain-join [] b x y z e C = subst (λ k. EdgeChain es k b z) (sym e) C
-  chain-join (s ∷ a) b x y z (h, e, r) C = (h, e, chain-join a b (ends es s) y z r C)
-
-  chain-cut : (a b : List ℕ) (x z : ℕ) → EdgeChain es x (a ++ b) z → (y : ℕ) × EdgeChain es x a y × EdgeChain es y b z
-  chain-cut [] b x z C = (x, refl, C)
-  chain-cut (s ∷ a) b x z (h, e, r) = let c = chain-cut a b (ends es s) z r in (c .0, (h, e, c .1), c .2)
-
-  chain-first : (c : List ℕ) (x y : ℕ) → EdgeChain es x c y → 0 < length c → begins es (getD c 0 0) ≡ x
-  chain-first [] x y e h = absurd (let z : 0 < 0 = h in omega arith)
-  chain-first (s ∷ c) x y (h, e, r) k = e
-
   over-join : (f : ℕ → ℕ) (a b : List ℕ) → over f (map (ends es) (a ++ b)) ≡ over f (map (ends es) a) + over f (map (ends es) b)
   over-join f [] b = omega arith
   over-join f (s ∷ a) b = omega (arith, over-join f a b)
@@ -53,12 +42,8 @@ first-turned p c h =
     getD-append-left (drop p c) (take p c) 0 0 (omega (arith, length-drop p c)) ∙ getD-drop p c 0 0 ∙ (let e : p + 0 ≡ p = omega arith in ap (λ k. getD c k 0) e)
 
 module _ {L : Type 0} {neutral : L} {joined : L → L → L} {opposite : L → L} {size : L → ℕ} {below : L → L → Bool} (j : JoinLaws neutral joined opposite size) (o : OrderLaws joined below) (es : List (Edge L)) where
-  total-join : (a b : List ℕ) → total neutral joined es (a ++ b) ≡ joined (total neutral joined es a) (total neutral joined es b)
-  total-join [] b = sym (j .left _)
-  total-join (s ∷ a) b = ap (joined (lasts neutral es s)) (total-join a b) ∙ sym (j .assoc _ _ _)
-
   total-turned : (a b : List ℕ) → total neutral joined es (a ++ b) ≡ total neutral joined es (b ++ a)
-  total-turned a b = total-join a b ∙ j .comm _ _ ∙ sym (total-join b a)
+  total-turned a b = total-join j es a b ∙ j .comm _ _ ∙ sym (total-join j es b a)
 
   -- from the lowest of its nodes, a closed chain that rises is a circuit
   pub circuit-from : (c : List ℕ) (p : ℕ) → Rising neutral joined below es c → LowestAt es c p → EdgeCircuit neutral joined below es (turned p c)

@@ -15,9 +15,9 @@ use Rattle.search.specs.declared.Edge.{Edge}
 use Rattle.search.specs.Terms.{begins, ends, lasts, Within, EdgeChain, total}
 use Rattle.handover.specs.Once.{Absent, Once}
 use Rattle.search.specs.Levels.{Came, Top, Level, History, first, later, Marked}
-use Rattle.search.proofs.Order.{asym, lt-le, le-lt, le-le, le-kept}
+use Rattle.search.proofs.Order.{right, le-lt}
 use Rattle.search.proofs.Stepping.{risen}
-use Rattle.search.proofs.Histories.{right, came-by}
+use Rattle.search.proofs.Histories.{came-by}
 use Rattle.handover.proofs.Once.{Below, once-few}
 
 -- the edges of path from k to n
