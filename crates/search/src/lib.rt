@@ -2,13 +2,13 @@
 ghost use mathlib.Core.Path.{_≡_};
 ghost use mathlib.Core.Bool.{true, false};
 ghost use mathlib.Core.List.{List};
-ghost use Prim.Native.Nat.{ℕ, _+_, _*_, _<_, _≤_};
-ghost use lib.ListN.{length, getD};
+ghost use Prim.Native.Nat.{ℕ, _+_, _-_, _<_, _≤_};
+ghost use lib.ListN.{length, getD, take, drop};
 ghost use Rattle.std.specs.Options.{Cases as BySome};
 ghost use Rattle.std.specs.declared.option.Option.{Option};
 ghost use Rattle.std.specs.declared.option.Option.the-variants.{None};
 ghost use Rattle.search.specs.Terms.{Within, begins, ends, lasts, Searchable, EdgeCircuit};
-ghost use Rattle.search.specs.Levels.{EdgeFits, Joinable, Level, History, Levelled, Marked, LowestAt, turned};
+ghost use Rattle.search.specs.Levels.{EdgeFits, Joinable, Level, History, Levelled, Marked, LowestAt, Rising};
 ghost use Rattle.search.specs.Answer.{Whole, around, Answered, Askable};
 use lengths::Joining;
 use lengths::OrderedLength;
@@ -105,13 +105,12 @@ fn lowest_place<L>(edges: &[Edge<L>], chain: &[usize]) -> usize
     first
 }
 
-// The round of a closed chain, from its lowest node.
-fn from_lowest<L>(edges: &[Edge<L>], chain: &[usize]) -> Round
-    requires some { ⌜ 1 ≤ length (now chain) ⌝ }
+// The circuit of a closed chain that rises, from its lowest node.
+fn from_lowest<L: OrderedLength>(edges: &[Edge<L>], chain: &[usize]) -> Round
     requires few { ⌜ length (now chain) ≤ 64 ⌝ }
-    requires known { ⌜ ((t : ℕ) → t < length (now chain) → getD (now chain) t 0 < length (now edges)) ⌝ }
+    requires rising { ⌜ Rising (L·Joining .neutral) (L·Joining .joined) below (now edges) (now chain) ⌝ }
     ensures whole { λ r. ⌜ Whole r ⌝ }
-    ensures told { λ r. ⌜ ((p : ℕ) × LowestAt (now (edges .entry)) (now (chain .entry)) p × (around r ≡ turned p (now (chain .entry)))) ⌝ }
+    ensures circuit { λ r. ⌜ EdgeCircuit (L·Joining .neutral) (L·Joining .joined) below (now (edges .entry)) (around r) ⌝ }
 {
     let first = lowest_place(edges, chain);
     let count = chain.len();
@@ -123,6 +122,22 @@ fn from_lowest<L>(edges: &[Edge<L>], chain: &[usize]) -> Round
         edges: round,
         count,
     }
+}
+
+// The circuit of the part of the path from the place `first` to `last`.
+fn part_as_circuit<L: OrderedLength>(
+    edges: &[Edge<L>],
+    path: &[usize; 64],
+    first: usize,
+    last: usize,
+) -> Round
+    requires order { ⌜ first ≤ last ⌝ }
+    requires inside { ⌜ last < 64 ⌝ }
+    requires rising { ⌜ Rising (L·Joining .neutral) (L·Joining .joined) below (now edges) (take (last + 1 - first) (drop first (now path))) ⌝ }
+    ensures whole { λ r. ⌜ Whole r ⌝ }
+    ensures circuit { λ r. ⌜ EdgeCircuit (L·Joining .neutral) (L·Joining .joined) below (now (edges .entry)) (around r) ⌝ }
+{
+    from_lowest(edges, &path[first..last + 1])
 }
 
 // The first place from `first` on whose edge of `path` ends at the node `x`.
@@ -169,7 +184,7 @@ fn walked_back<L: OrderedLength>(
         path[k] = e;
         x = edges[e].from;
         if let Some(j) = place_of_end(edges, &path, k, nodes, x) {
-            return from_lowest(edges, &path[k..j + 1]);
+            return part_as_circuit(edges, &path, k, j);
         }
     }
     unreachable()
