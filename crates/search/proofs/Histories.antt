@@ -14,22 +14,10 @@ use Rattle.lengths.specs.Laws.{JoinLaws, OrderLaws}
 use Rattle.search.specs.declared.Edge.{Edge}
 use Rattle.search.specs.Terms.{begins, ends, lasts, Within, EdgeChain, total, LeastStarts}
 use Rattle.search.specs.Levels.{Came, Top, Level, History, first, later, Marked}
-use Rattle.search.proofs.Order.{asym, lt-le, le-lt, le-le, le-kept}
+use Rattle.search.proofs.Order.{right, le-le}
+use Rattle.search.proofs.Chains.{chain-join, total-join}
 use Rattle.search.proofs.Bounds.{least-along}
 use Rattle.search.proofs.Stepping.{risen}
-
--- a chain with one edge more
-pub chain-push : {L : Type 0} (es : List (Edge L)) (a : ℕ) (c : List ℕ) (e : ℕ) → e < length es → EdgeChain es a c (begins es e) → EdgeChain es a (c ++ (e ∷ [])) (ends es e)
-chain-push es a [] e h p = (h, sym p, refl)
-chain-push es a (f ∷ c) e h p = (p .0, p .1, chain-push es (ends es f) c e h (p .2))
-
-module _ {L : Type 0} {neutral : L} {joined : L → L → L} {opposite : L → L} {size : L → ℕ} (j : JoinLaws neutral joined opposite size) where
-  pub right : (x : L) → joined x neutral ≡ x
-  right x = j .comm x neutral ∙ j .left x
-
-  pub total-push : (es : List (Edge L)) (c : List ℕ) (e : ℕ) → total neutral joined es (c ++ (e ∷ [])) ≡ joined (total neutral joined es c) (lasts neutral es e)
-  total-push es [] e = right _ ∙ sym (j .left _)
-  total-push es (f ∷ c) e = ap (joined (lasts neutral es f)) (total-push es c e) ∙ sym (j .assoc _ _ _)
 
 module _ {L : Type 0} {neutral : L} {joined : L → L → L} {below : L → L → Bool} (es : List (Edge L)) (vias : List (List (Option ℕ))) where
   -- a row that is written past the levels
@@ -82,7 +70,7 @@ module _ {L : Type 0} {neutral : L} {joined : L → L → L} {opposite : L → L
     reached-came a k h y yh x (Some e) p =
         let q = h (begins es e) (w e (p .0) .0) in
         let m = q .3 in
-        (q .0, (q .1 ++ (e ∷ [])), q .2, (rw length-push (omega arith)), (subst (EdgeChain es (q .0) (q .1 ++ (e ∷ []))) (p .1) (chain-push es (q .0) (q .1) e (p .0) (q .4))), (total-push j es (q .1) e ∙ ap (λ t. joined t (lasts neutral es e)) (q .5) ∙ sym (p .2)))
+        (q .0, (q .1 ++ (e ∷ [])), q .2, (rw length-push (omega arith)), (subst (EdgeChain es (q .0) (q .1 ++ (e ∷ []))) (p .1) (chain-join es (q .1) (e ∷ []) (q .0) (begins es e) (ends es e) (q .4) (p .0, refl, refl))), (total-join j es (q .1) (e ∷ []) ∙ (λ t. joined (q .5 t) (right j (lasts neutral es e) t)) ∙ sym (p .2)))
 
     pub history-reached : {k : ℕ} {b : List L} → History neutral joined below es vias k b → (y : ℕ) → y < nodes → Reached k y (getD b y neutral)
     history-reached (first e m z) y h = (y, [], h, (omega arith), refl, sym (z y (omega arith)))

@@ -1,12 +1,12 @@
-// LeastStarts starts over edges with lengths of any ordered kind, or a circuit whose joined length is above neutral.
+// Least starts over edges with lengths of any ordered kind, or a circuit whose joined length is above neutral.
 ghost use mathlib.Core.Path.{_≡_};
-ghost use Prim.Native.Nat.{ℕ, _+_, _*_, _<_, _≤_};
-ghost use lib.ListN.{length, getD, take, drop};
-ghost use Rattle.search.specs.Terms.{Within, begins, ends, lasts, EdgeCircuit, Ready};
-ghost use Rattle.search.specs.Levels.{Level, Levelled, Marked};
-ghost use Rattle.std.specs.Options.{Cases as BySome};
-ghost use Rattle.search.specs.Answer.{Answered, around, Whole};
 ghost use mathlib.Core.Bool.{true, false};
+ghost use Prim.Native.Nat.{ℕ, _+_, _*_, _<_, _≤_};
+ghost use lib.ListN.{length, getD};
+ghost use Rattle.std.specs.Options.{Cases as BySome};
+ghost use Rattle.search.specs.Terms.{Within, begins, ends, lasts, Searchable, EdgeCircuit};
+ghost use Rattle.search.specs.Levels.{Level, Levelled, Marked, LowestAt, turned};
+ghost use Rattle.search.specs.Answer.{Whole, around, Answered, Askable};
 use lengths::Joining;
 use lengths::OrderedLength;
 
@@ -58,17 +58,39 @@ pub enum Outcome {
     Above(Round),
 }
 
-// `count` edges of `path`, from `first` on.
-fn cut(path: &[usize; 64], first: usize, count: usize) -> Round
-    requires { ⌜ first + count ≤ 64 ⌝ }
-    ensures whole { λ r. ⌜ Whole r ⌝ }
-    ensures part { λ r. ⌜ around r ≡ take count (drop first (now (path .entry))) ⌝ }
+// The place in the chain whose edge begins at the lowest node.
+fn lowest_place<L>(edges: &[Edge<L>], chain: &[usize]) -> usize
+    requires some { ⌜ 1 ≤ length (now chain) ⌝ }
+    requires known { ⌜ ((t : ℕ) → t < length (now chain) → getD (now chain) t 0 < length (now edges)) ⌝ }
+    ensures { λ r. ⌜ LowestAt (now (edges .entry)) (now (chain .entry)) r ⌝ }
 {
-    let mut edges = [0; 64];
-    for t in 0..count {
-        edges[t] = path[first + t];
+    let mut first = 0;
+    for t in 0..chain.len() {
+        if edges[chain[t]].from < edges[chain[first]].from {
+            first = t;
+        }
     }
-    Round { edges, count }
+    first
+}
+
+// The round of a closed chain, from its lowest node.
+fn from_lowest<L>(edges: &[Edge<L>], chain: &[usize]) -> Round
+    requires some { ⌜ 1 ≤ length (now chain) ⌝ }
+    requires few { ⌜ length (now chain) ≤ 64 ⌝ }
+    requires known { ⌜ ((t : ℕ) → t < length (now chain) → getD (now chain) t 0 < length (now edges)) ⌝ }
+    ensures whole { λ r. ⌜ Whole r ⌝ }
+    ensures told { λ r. ⌜ ((p : ℕ) × LowestAt (now (edges .entry)) (now (chain .entry)) p × (around r ≡ turned p (now (chain .entry)))) ⌝ }
+{
+    let first = lowest_place(edges, chain);
+    let count = chain.len();
+    let mut round = [0; 64];
+    let front = &mut round[0..count];
+    front.copy_from_slice(chain);
+    front.rotate_left(first);
+    Round {
+        edges: round,
+        count,
+    }
 }
 
 // The first place from `first` on whose edge of `path` ends at the node `x`.
@@ -115,22 +137,20 @@ fn walked_back<L: OrderedLength>(
         path[k] = e;
         x = edges[e].from;
         if let Some(j) = place_of_end(edges, &path, k, nodes, x) {
-            return cut(&path, k, j + 1 - k);
+            return from_lowest(edges, &path[k..j + 1]);
         }
     }
     unreachable()
 }
 
-// LeastStarts starts of all the nodes, into `starts`, or a circuit above neutral. What `spare` holds does not matter.
-pub fn least_starts<L: OrderedLength>(
+// Level after level, from neutral everywhere: the first that raises nothing has the least starts, and the last has a circuit behind it.
+fn search_levels<L: OrderedLength>(
     nodes: usize,
     edges: &[Edge<L>],
     starts: &mut [L],
     spare: &mut [L],
 ) -> Outcome
-    requires few { ⌜ nodes ≤ 64 ⌝ }
-    requires inside { ⌜ Within nodes (now edges) ⌝ }
-    requires room { ⌜ ((i : ℕ) → i < length (now edges) → 64 * L·Joining .size (lasts (L·Joining .neutral) (now edges) i) ≤ L·Joining .largest) ⌝ }
+    requires asked { ⌜ Searchable (L·Joining .neutral) (L·Joining .size) (L·Joining .largest) nodes (now edges) ⌝ }
     requires long { ⌜ length (now starts) ≡ 64 ⌝ }
     requires wide { ⌜ length (now spare) ≡ 64 ⌝ }
     ensures { λ r. ⌜ Answered (L·Joining .neutral) (L·Joining .joined) below nodes (now (edges .entry)) (now (starts .exit)) r ⌝ }
@@ -156,10 +176,10 @@ pub fn least_starts<L: OrderedLength>(
     Outcome::Above(walked_back(nodes, edges, &vias, last))
 }
 
-// Whether `least_starts` may be asked.
-pub fn ready<L: OrderedLength>(nodes: usize, edges: &[Edge<L>]) -> bool
-    ensures accepts { λ r. ⌜ (r ≡ true → Ready (L·Joining .neutral) (L·Joining .size) (L·Joining .largest) nodes (now (edges .entry))) ⌝ }
-    ensures refuses { λ r. ⌜ (r ≡ false → Ready (L·Joining .neutral) (L·Joining .size) (L·Joining .largest) nodes (now (edges .entry)) → ⊥) ⌝ }
+// Whether edges over so many nodes can be searched.
+fn searchable<L: OrderedLength>(nodes: usize, edges: &[Edge<L>]) -> bool
+    ensures accepts { λ r. ⌜ (r ≡ true → Searchable (L·Joining .neutral) (L·Joining .size) (L·Joining .largest) nodes (now (edges .entry))) ⌝ }
+    ensures refuses { λ r. ⌜ (r ≡ false → Searchable (L·Joining .neutral) (L·Joining .size) (L·Joining .largest) nodes (now (edges .entry)) → ⊥) ⌝ }
 {
     if nodes > 64 {
         return false;
@@ -177,17 +197,21 @@ pub fn ready<L: OrderedLength>(nodes: usize, edges: &[Edge<L>]) -> bool
     true
 }
 
-// LeastStarts starts or a circuit, where the edges can be searched at all.
-pub fn solved<L: OrderedLength>(
+// The least starts of all the nodes, at the front of `starts`, or a circuit above neutral.
+// There is no answer, and nothing is written, where the edges cannot be searched or `starts` or `spare` does not have 64 places.
+// What the two hold at first does not matter, nor what `spare` holds afterwards.
+pub fn least_starts<L: OrderedLength>(
     nodes: usize,
     edges: &[Edge<L>],
     starts: &mut [L],
     spare: &mut [L],
 ) -> Option<Outcome>
-    ensures { λ r. ⌜ BySome r (length (now (starts .entry)) ≡ 64 → length (now (spare .entry)) ≡ 64 → Ready (L·Joining .neutral) (L·Joining .size) (L·Joining .largest) nodes (now (edges .entry)) → ⊥) (Answered (L·Joining .neutral) (L·Joining .joined) below nodes (now (edges .entry)) (now (starts .exit))) ⌝ }
+    ensures asked { λ r. ⌜ BySome r (Askable (L·Joining .neutral) (L·Joining .size) (L·Joining .largest) nodes (now (edges .entry)) (now (starts .entry)) (now (spare .entry)) → ⊥) (λ _. Askable (L·Joining .neutral) (L·Joining .size) (L·Joining .largest) nodes (now (edges .entry)) (now (starts .entry)) (now (spare .entry))) ⌝ }
+    ensures answered { λ r. ⌜ BySome r (Unit {0}) (Answered (L·Joining .neutral) (L·Joining .joined) below nodes (now (edges .entry)) (now (starts .exit))) ⌝ }
+    ensures unchanged { λ r. ⌜ BySome r ((now (starts .exit) ≡ now (starts .entry)) × (now (spare .exit) ≡ now (spare .entry))) (λ _. Unit {0}) ⌝ }
 {
-    if starts.len() == 64 && spare.len() == 64 && ready(nodes, edges) {
-        Some(least_starts(nodes, edges, starts, spare))
+    if starts.len() == 64 && spare.len() == 64 && searchable(nodes, edges) {
+        Some(search_levels(nodes, edges, starts, spare))
     } else {
         None
     }
