@@ -94,7 +94,7 @@ module _ {L : Type 0} (N : Net) (w : Step → L) where
   chain-as (e ∷ c) a b (h, p, r) =
       (has-at e h, sym (begins-at e h) ∙ p, subst (λ z. Chain N z (map (step-at N) c) b) (ends-at e h) (chain-as c (ends (edges-of N w) e) b r))
 
-  tos-are : (c : List ℕ) (a b : ℕ) → EdgeChain (edges-of N w) a c b → map (ends (edges-of N w)) c ≡ map (leads-to N) (map (step-at N) c)
+  pub tos-are : (c : List ℕ) (a b : ℕ) → EdgeChain (edges-of N w) a c b → map (ends (edges-of N w)) c ≡ map (leads-to N) (map (step-at N) c)
   tos-are [] a b e = refl
   tos-are (e ∷ c) a b (h, p, r) = let q = tos-are c (ends (edges-of N w) e) b r in λ x. ends-at e h x ∷ q x
 
@@ -103,5 +103,5 @@ module _ {L : Type 0} (N : Net) (w : Step → L) where
   froms-are (e ∷ c) a b (h, p, r) zero k = sym (begins-at e h)
   froms-are (e ∷ c) a b (h, p, r) (suc t) k = froms-are c (ends (edges-of N w) e) b r t (omega arith)
 
-  pub circuit-as : (c : List ℕ) (C : (a : ℕ) × EdgeChain (edges-of N w) a c a) → Once (map (ends (edges-of N w)) c) → Circuit N (map (step-at N) c)
-  circuit-as c (a, C) o = record { closed = (a, chain-as c a a C); once = subst Once (tos-are c a a C) o }
+  abbrev pub circuit-as : (c : List ℕ) (C : (a : ℕ) × EdgeChain (edges-of N w) a c a) → Once (map (ends (edges-of N w)) c) → Circuit N (map (step-at N) c)
+  circuit-as c C o = record { closed = (C .0, chain-as c (C .0) (C .0) (C .1)); once = subst Once (tos-are c (C .0) (C .0) (C .1)) o }

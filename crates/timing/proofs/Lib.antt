@@ -3,3 +3,6 @@ pub mod Sizes
 pub mod Listings
 pub mod Fronts
 pub mod Bridge
+pub mod Orders
+pub mod Ticked
+pub mod Answered

@@ -26,7 +26,7 @@ use search::Outcome;
 use search::least_starts;
 
 // A kind of length that the steps of a net have. 64 of them can be joined.
-pub trait StepLength: OrderedLength {
+pub(crate) trait StepLength: OrderedLength {
     ghost measured: { rules.Net → model.Step → Self };
 
     law roomy: { (N : rules.Net) → rules.Sound N → InRange N → (s : model.Step) → model.Has N s → 64 * Self·Joining .size (measured N s) ≤ Self·Joining .largest };
@@ -37,7 +37,7 @@ pub trait StepLength: OrderedLength {
         ensures { λ r. ⌜ r ≡ edge-of (of-net (now (net .entry))) (measured (of-net (now (net .entry)))) (of-step step) ⌝ };
 }
 
-impl StepLength for (i64, i64) as PairOfStep {
+pub(crate) impl StepLength for (i64, i64) as PairOfStep {
     ghost measured = { pair };
 
     fn edge(net: &Net, step: Step) -> Edge<(i64, i64)> {
@@ -45,7 +45,7 @@ impl StepLength for (i64, i64) as PairOfStep {
     }
 }
 
-impl StepLength for Ticks as TicksOfStep {
+pub(crate) impl StepLength for Ticks as TicksOfStep {
     ghost measured = { in-ticks };
 
     fn edge(net: &Net, step: Step) -> Edge<Ticks> {
@@ -66,7 +66,7 @@ fn step_edges<L: StepLength>(net: &Net, steps: &[Step], edges: &mut [Edge<L>])
 }
 
 // The least starts of the stations, or a circuit above neutral, by the number of each step. What `edges`, `starts` and `spare` hold does not matter.
-pub fn search_steps<L: StepLength>(
+pub(crate) fn search_steps<L: StepLength>(
     net: &Net,
     steps: &[Step],
     edges: &mut [Edge<L>],

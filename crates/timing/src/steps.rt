@@ -134,7 +134,7 @@ fn own_edge(net: &Net, i: u8) -> Edge<(i64, i64)>
 }
 
 // A step of the net as an edge with its pair.
-pub fn step_edge(net: &Net, step: Step) -> Edge<(i64, i64)>
+pub(crate) fn step_edge(net: &Net, step: Step) -> Edge<(i64, i64)>
     requires good { ⌜ Good (now net) ⌝ }
     requires has { ⌜ Has (of-net (now net)) (of-step step) ⌝ }
     ensures { λ r. ⌜ r ≡ pair-edge (of-net (now (net .entry))) (of-step step) ⌝ }
@@ -153,7 +153,7 @@ pub fn step_edge(net: &Net, step: Step) -> Edge<(i64, i64)>
 }
 
 // A step of the net as an edge with its length in ticks.
-pub fn step_ticks(net: &Net, step: Step) -> Edge<Ticks>
+pub(crate) fn step_ticks(net: &Net, step: Step) -> Edge<Ticks>
     requires good { ⌜ Good (now net) ⌝ }
     requires has { ⌜ Has (of-net (now net)) (of-step step) ⌝ }
     ensures { λ r. ⌜ r ≡ tick-edge (of-net (now (net .entry))) (of-step step) ⌝ }
@@ -205,7 +205,7 @@ fn list_own_steps(net: &Net, count: usize, steps: &mut [Step; 320]) -> usize
 }
 
 // All steps of the net, at the front of `steps`, and how many they are.
-pub fn list_steps(net: &Net, steps: &mut [Step; 320]) -> usize
+pub(crate) fn list_steps(net: &Net, steps: &mut [Step; 320]) -> usize
     requires good { ⌜ Good (now net) ⌝ }
     ensures few { λ r. ⌜ r ≤ 320 ⌝ }
     ensures all { λ r. ⌜ map of-step (take r (now (steps .exit))) ≡ steps-of (of-net (now (net .entry))) ⌝ }
