@@ -6,3 +6,6 @@ pub mod Bridge
 pub mod Orders
 pub mod Ticked
 pub mod Answered
+pub mod Paired
+pub mod Raising
+pub mod Paced
