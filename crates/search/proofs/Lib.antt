@@ -5,5 +5,5 @@ pub mod Bounds
 pub mod Stepping
 pub mod Histories
 pub mod Walking
-pub mod Turning
 pub mod Fronts
+pub mod Turning

@@ -6,17 +6,17 @@ use mathlib.Core.Logic.{inl, inr}
 use Prim.Native.Nat.{ℕ, zero, suc, _<_, _≤_, _+_, _-_}
 use native.Mathlib.Omega.{arith}
 use lib.ListN.{length, getD, take, drop}
-use Rattle.std.proofs.shelf.Tests.{cases-lt}
+use Rattle.std.proofs.shelf.Tests.{cases-lt, both-ways}
 use Rattle.std.proofs.shelf.Lists.{length-append, length-take, length-drop, getD-append-left, getD-append-right, getD-take, getD-drop, take-append-drop}
 use Rattle.lengths.specs.Laws.{JoinLaws, OrderLaws}
 use Rattle.handover.specs.Once.{Once}
 use Rattle.handover.proofs.Once.{over, is, once-count, count-once}
 use Rattle.search.specs.declared.Edge.{Edge}
 use Rattle.search.specs.Terms.{begins, ends, lasts, EdgeChain, total, EdgeCircuit}
-use Rattle.search.specs.Levels.{LowestAt, turned}
+use Rattle.search.specs.Levels.{Rising, LowestAt, turned}
 use Rattle.search.proofs.Chains.{chain-join, chain-cut, chain-first, total-join}
 use Rattle.search.proofs.Bounds.{shut-along}
-use Rattle.search.proofs.Walking.{Rising}
+use Rattle.search.proofs.Walking.{chain-in}
 
 module _ {L : Type 0} (es : List (Edge L)) where
   over-join : (f : ℕ → ℕ) (a b : List ℕ) → over f (map (ends es) (a ++ b)) ≡ over f (map (ends es) a) + over f (map (ends es) b)
@@ -61,3 +61,11 @@ module _ {L : Type 0} {neutral : L} {joined : L → L → L} {opposite : L → L
         above = up;
         shut = λ other kept. shut-along j o es other kept (k .0) (turned p c) round up;
       }
+
+  -- a closed chain that rises has an edge
+  pub rising-some : (c : List ℕ) → Rising neutral joined below es c → 1 ≤ length c
+  rising-some [] r = absurd (both-ways (below neutral neutral) (o .irreflexive neutral) (r .above))
+  rising-some (e ∷ c) r = omega arith
+
+  pub rising-known : (c : List ℕ) → Rising neutral joined below es c → (t : ℕ) → t < length c → getD c t 0 < length es
+  rising-known c r t h = chain-in es (r .closed .0) c (r .closed .0) t (r .closed .1) h

@@ -14,7 +14,7 @@ use Rattle.lengths.specs.Laws.{JoinLaws, OrderLaws}
 use Rattle.search.specs.declared.Edge.{Edge}
 use Rattle.search.specs.Terms.{begins, ends, lasts, Within, EdgeChain, total}
 use Rattle.handover.specs.Once.{Absent, Once}
-use Rattle.search.specs.Levels.{Came, Top, Level, History, first, later, Marked}
+use Rattle.search.specs.Levels.{Came, Top, Level, History, first, later, Marked, Rising}
 use Rattle.search.proofs.Order.{right, le-lt}
 use Rattle.search.proofs.Stepping.{risen}
 use Rattle.search.proofs.Histories.{came-by}
@@ -40,12 +40,6 @@ pub record Walk {L : Type 0} (neutral : L) (joined : L → L → L) (below : L �
   pub once : Once (map (ends es) c)
   pub node : x < nodes
   pub count : k + length c ≡ nodes
-
--- A closed chain that ends at no node twice and is above neutral.
-pub record Rising {L : Type 0} (neutral : L) (joined : L → L → L) (below : L → L → Bool) (es : List (Edge L)) (c : List ℕ) : Type 0 where
-  pub closed : (a : ℕ) × EdgeChain es a c a
-  pub once : Once (map (ends es) c)
-  pub above : below neutral (total neutral joined es c) ≡ true
 
 some-none : (i : ℕ) → _≡_ {A = Option ℕ} (Some i) None → ⊥
 some-none i h = let z : _≡_ {A = ℕ} 0 1 = cc in omega arith
@@ -242,9 +236,3 @@ module _ {L : Type 0} {neutral : L} {joined : L → L → L} {opposite : L → L
     closes-at i a b eq =
         rw (take-seg path′ (k - 1) nodes i a b)
         (walk-closes j o es vias nodes (k - 1) (begins es e) (seg path′ (k - 1) nodes) (i - (k - 1)) next-walk (in-seg i a b) (ap (ends es) (getD-seg path′ (k - 1) nodes i a b) ∙ eq))
-
-    -- the edges from there to here are edges, at least one and at most 64
-    pub cut-known : (i : ℕ) → k - 1 ≤ i → i < nodes → let c = take (i + 1 - (k - 1)) (drop (k - 1) path′) in (1 ≤ length c) × (length c ≤ 64) × ((t : ℕ) → t < length c → getD c t 0 < length es)
-    cut-known i a b =
-        let many : length (take (i + 1 - (k - 1)) (drop (k - 1) path′)) ≡ i + 1 - (k - 1) = simp (length-take, length-drop, long′) (omega arith) in
-        (omega arith, omega arith, λ t h. rw (getD-take (i + 1 - (k - 1)) (drop (k - 1) path′) t 0 (omega arith), getD-drop (k - 1) path′ t 0) (known-edges (k - 1 + t) (omega arith) (omega arith)))

@@ -1,11 +1,14 @@
 // Least starts over edges with lengths of any ordered kind, or a circuit whose joined length is above neutral.
 ghost use mathlib.Core.Path.{_≡_};
 ghost use mathlib.Core.Bool.{true, false};
-ghost use Prim.Native.Nat.{ℕ, _+_, _*_, _<_, _≤_};
-ghost use lib.ListN.{length, getD};
+ghost use mathlib.Core.List.{List};
+ghost use Prim.Native.Nat.{ℕ, _+_, _-_, _<_, _≤_};
+ghost use lib.ListN.{length, getD, take, drop};
 ghost use Rattle.std.specs.Options.{Cases as BySome};
+ghost use Rattle.std.specs.declared.option.Option.{Option};
+ghost use Rattle.std.specs.declared.option.Option.the-variants.{None};
 ghost use Rattle.search.specs.Terms.{Within, begins, ends, lasts, Searchable, EdgeCircuit};
-ghost use Rattle.search.specs.Levels.{Level, Levelled, Marked, LowestAt, turned};
+ghost use Rattle.search.specs.Levels.{EdgeFits, Joinable, Level, History, Levelled, Marked, LowestAt, Rising};
 ghost use Rattle.search.specs.Answer.{Whole, around, Answered, Askable};
 use lengths::Joining;
 use lengths::OrderedLength;
@@ -15,6 +18,42 @@ pub struct Edge<L> {
     pub from: usize,
     pub to: usize,
     pub length: L,
+}
+
+// A level that raises nothing: `best` as `before`, and no node came by an edge.
+fn same_level<L: OrderedLength>(before: &[L], best: &mut [L], via: &mut [Option<usize>; 64])
+    requires long { ⌜ length (now before) ≡ 64 ⌝ }
+    requires wide { ⌜ length (now best) ≡ 64 ⌝ }
+    ensures { λ _. ⌜ ((es : List (Edge L)) → Level (L·Joining .neutral) (L·Joining .joined) below es 0 (now (before .entry)) (now (best .exit)) (now (via .exit)) None) ⌝ }
+{
+    best.copy_from_slice(before);
+    *via = [None; 64];
+}
+
+// The level with one edge more looked at: its end is raised where the edge leads to a greater length. It answers a node that was raised.
+fn raised_by<L: OrderedLength>(
+    edges: &[Edge<L>],
+    i: usize,
+    before: &[L],
+    best: &mut [L],
+    via: &mut [Option<usize>; 64],
+    raised: Option<usize>,
+) -> Option<usize>
+    requires edge { ⌜ i < length (now edges) ⌝ }
+    requires long { ⌜ length (now before) ≡ 64 ⌝ }
+    requires inside { ⌜ Within 64 (now edges) ⌝ }
+    requires room { ⌜ Joinable (L·Joining .neutral) (L·Joining .size) (L·Joining .largest) (now edges) (now before) ⌝ }
+    requires level { ⌜ Level (L·Joining .neutral) (L·Joining .joined) below (now edges) i (now before) (now best) (now via) raised ⌝ }
+    ensures { λ r. ⌜ Level (L·Joining .neutral) (L·Joining .joined) below (now (edges .entry)) (i + 1) (now (before .entry)) (now (best .exit)) (now (via .exit)) r ⌝ }
+{
+    let edge = edges[i];
+    let reached = before[edge.from].join(edge.length);
+    if best[edge.to].is_below(reached) {
+        best[edge.to] = reached;
+        via[edge.to] = Some(i);
+        return Some(edge.to);
+    }
+    raised
 }
 
 // The level after `before`, into `best`: the greatest length of a chain with at most one edge more. It answers a node that was raised.
@@ -27,20 +66,13 @@ fn stepped<L: OrderedLength>(
     requires long { ⌜ length (now before) ≡ 64 ⌝ }
     requires wide { ⌜ length (now best) ≡ 64 ⌝ }
     requires inside { ⌜ Within 64 (now edges) ⌝ }
-    requires room { ⌜ ((i : ℕ) → i < length (now edges) → L·Joining .size (getD (now before) (begins (now edges) i) (L·Joining .neutral)) + L·Joining .size (lasts (L·Joining .neutral) (now edges) i) ≤ L·Joining .largest) ⌝ }
+    requires room { ⌜ Joinable (L·Joining .neutral) (L·Joining .size) (L·Joining .largest) (now edges) (now before) ⌝ }
     ensures { λ r. ⌜ Level (L·Joining .neutral) (L·Joining .joined) below (now (edges .entry)) (length (now (edges .entry))) (now (before .entry)) (now (best .exit)) (now (via .exit)) r ⌝ }
 {
-    best.copy_from_slice(before);
-    *via = [None; 64];
+    same_level(before, best, via);
     let mut raised = None;
     for i in 0..edges.len() {
-        let edge = edges[i];
-        let reached = before[edge.from].join(edge.length);
-        if best[edge.to].is_below(reached) {
-            best[edge.to] = reached;
-            via[edge.to] = Some(i);
-            raised = Some(edge.to);
-        }
+        raised = raised_by(edges, i, before, best, via, raised);
     }
     raised
 }
@@ -73,13 +105,12 @@ fn lowest_place<L>(edges: &[Edge<L>], chain: &[usize]) -> usize
     first
 }
 
-// The round of a closed chain, from its lowest node.
-fn from_lowest<L>(edges: &[Edge<L>], chain: &[usize]) -> Round
-    requires some { ⌜ 1 ≤ length (now chain) ⌝ }
+// The circuit of a closed chain that rises, from its lowest node.
+fn from_lowest<L: OrderedLength>(edges: &[Edge<L>], chain: &[usize]) -> Round
     requires few { ⌜ length (now chain) ≤ 64 ⌝ }
-    requires known { ⌜ ((t : ℕ) → t < length (now chain) → getD (now chain) t 0 < length (now edges)) ⌝ }
+    requires rising { ⌜ Rising (L·Joining .neutral) (L·Joining .joined) below (now edges) (now chain) ⌝ }
     ensures whole { λ r. ⌜ Whole r ⌝ }
-    ensures told { λ r. ⌜ ((p : ℕ) × LowestAt (now (edges .entry)) (now (chain .entry)) p × (around r ≡ turned p (now (chain .entry)))) ⌝ }
+    ensures circuit { λ r. ⌜ EdgeCircuit (L·Joining .neutral) (L·Joining .joined) below (now (edges .entry)) (around r) ⌝ }
 {
     let first = lowest_place(edges, chain);
     let count = chain.len();
@@ -91,6 +122,22 @@ fn from_lowest<L>(edges: &[Edge<L>], chain: &[usize]) -> Round
         edges: round,
         count,
     }
+}
+
+// The circuit of the part of the path from the place `first` to `last`.
+fn part_as_circuit<L: OrderedLength>(
+    edges: &[Edge<L>],
+    path: &[usize; 64],
+    first: usize,
+    last: usize,
+) -> Round
+    requires order { ⌜ first ≤ last ⌝ }
+    requires inside { ⌜ last < 64 ⌝ }
+    requires rising { ⌜ Rising (L·Joining .neutral) (L·Joining .joined) below (now edges) (take (last + 1 - first) (drop first (now path))) ⌝ }
+    ensures whole { λ r. ⌜ Whole r ⌝ }
+    ensures circuit { λ r. ⌜ EdgeCircuit (L·Joining .neutral) (L·Joining .joined) below (now (edges .entry)) (around r) ⌝ }
+{
+    from_lowest(edges, &path[first..last + 1])
 }
 
 // The first place from `first` on whose edge of `path` ends at the node `x`.
@@ -137,10 +184,21 @@ fn walked_back<L: OrderedLength>(
         path[k] = e;
         x = edges[e].from;
         if let Some(j) = place_of_end(edges, &path, k, nodes, x) {
-            return from_lowest(edges, &path[k..j + 1]);
+            return part_as_circuit(edges, &path, k, j);
         }
     }
     unreachable()
+}
+
+// The first level: neutral everywhere.
+fn first_level<L: OrderedLength>(starts: &mut [L])
+    requires { ⌜ length (now starts) ≡ 64 ⌝ }
+    ensures { λ _. ⌜ ((es : List (Edge L)) (vias : List (List (Option ℕ))) → History (L·Joining .neutral) (L·Joining .joined) below es vias 0 (now (starts .exit))) ⌝ }
+{
+    let none = L::none();
+    for s in starts.iter_mut() {
+        *s = none;
+    }
 }
 
 // Level after level, from neutral everywhere: the first that raises nothing has the least starts, and the last has a circuit behind it.
@@ -155,10 +213,7 @@ fn search_levels<L: OrderedLength>(
     requires wide { ⌜ length (now spare) ≡ 64 ⌝ }
     ensures { λ r. ⌜ Answered (L·Joining .neutral) (L·Joining .joined) below nodes (now (edges .entry)) (now (starts .exit)) r ⌝ }
 {
-    let none = L::none();
-    for s in starts.iter_mut() {
-        *s = none;
-    }
+    first_level(starts);
     let mut via = [None; 64];
     let mut vias = [[None; 64]; 64];
     let mut last = 0;
@@ -176,6 +231,14 @@ fn search_levels<L: OrderedLength>(
     Outcome::Above(walked_back(nodes, edges, &vias, last))
 }
 
+// Whether the edge joins two of the nodes and 64 lengths of its size can be joined.
+fn fits<L: OrderedLength>(nodes: usize, edge: Edge<L>) -> bool
+    ensures accepts { λ r. ⌜ (r ≡ true → EdgeFits (L·Joining .size) (L·Joining .largest) nodes edge) ⌝ }
+    ensures refuses { λ r. ⌜ (r ≡ false → EdgeFits (L·Joining .size) (L·Joining .largest) nodes edge → ⊥) ⌝ }
+{
+    edge.from < nodes && edge.to < nodes && edge.length.measure() <= L::largest_size() / 64
+}
+
 // Whether edges over so many nodes can be searched.
 fn searchable<L: OrderedLength>(nodes: usize, edges: &[Edge<L>]) -> bool
     ensures accepts { λ r. ⌜ (r ≡ true → Searchable (L·Joining .neutral) (L·Joining .size) (L·Joining .largest) nodes (now (edges .entry))) ⌝ }
@@ -184,13 +247,8 @@ fn searchable<L: OrderedLength>(nodes: usize, edges: &[Edge<L>]) -> bool
     if nodes > 64 {
         return false;
     }
-    let most = L::largest_size() / 64;
-    for i in 0..edges.len() {
-        let edge = edges[i];
-        if edge.from >= nodes || edge.to >= nodes {
-            return false;
-        }
-        if edge.length.measure() > most {
+    for e in 0..edges.len() {
+        if !fits(nodes, edges[e]) {
             return false;
         }
     }
