@@ -23,7 +23,7 @@ use Rattle.nets.specs.declared.Pace.{Pace}
 use Rattle.nets.specs.Views.{of-net, Good}
 use Rattle.timing.specs.declared.Raised.{Raised}
 use Rattle.timing.specs.declared.Raised.the-variants.{Enough, To, Never}
-use Rattle.timing.specs.Pacing.{with-pace, PaceInRange, Raises, Named, FirstPace, lowest-terms, Fastest}
+use Rattle.timing.specs.Pacing.{with-pace, PaceInRange, Raises, Named, FirstPace, lowest-terms, FastestPace}
 use Rattle.timing.proofs.Opened.{station, stations-are, rate-read, duration-read}
 
 -- A good net is good at every pace that a net can have
@@ -118,7 +118,7 @@ module _ (N : Net) (G : Good N) where
       }
 
   -- a pace with a timetable that a circuit names is the fastest
-  pub fastest-named : (p : Pace) → Named (of-net N) p → HasTimetable (at-pace (of-net N) (p .share) (p .unit)) → Fastest (of-net N) (lowest-terms p)
+  pub fastest-named : (p : Pace) → Named (of-net N) p → HasTimetable (at-pace (of-net N) (p .share) (p .unit)) → FastestPace (of-net N) (lowest-terms p)
   fastest-named p n has =
       let a = p .share in
       let b = p .unit in

@@ -8,7 +8,7 @@ use lib.Signed.{ltZ}
 use Rattle.handover.specs.Gcd.{gcd}
 use Rattle.rules.specs.Net as rules
 use Rattle.rules.specs.Rules.{HasTimetable, NoPace}
-use Rattle.rules.specs.Paces as paces
+use Rattle.rules.specs.Paces.{Fastest}
 use Rattle.rules.specs.Steps.{Step, Circuit, shares-of, time-of}
 use Rattle.nets.specs.declared.Net.{Net}
 use Rattle.nets.specs.declared.Pace.{Pace}
@@ -59,6 +59,6 @@ pub record FirstPace (N : rules.Net) (p : Pace) : Type 0 where
 abbrev pub lowest-terms : Pace → Pace
 lowest-terms p = record { share = p .share / gcd (p .share) (p .unit); unit = p .unit / gcd (p .share) (p .unit) }
 
--- The fastest pace, as the program has it.
-abbrev pub Fastest : rules.Net → Pace → Type 0
-Fastest N p = paces.Fastest N (p .share) (p .unit) × PaceInRange p
+-- The fastest pace of the net, in lowest terms, and one that a net can have.
+abbrev pub FastestPace : rules.Net → Pace → Type 0
+FastestPace N p = Fastest N (p .share) (p .unit) × PaceInRange p

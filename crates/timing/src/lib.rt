@@ -6,7 +6,7 @@ ghost use Rattle.std.specs.Results.{Cases as ByOk};
 ghost use Rattle.rules.specs.Rules.{NoPace};
 ghost use Rattle.nets.specs.Views.{of-net};
 ghost use Rattle.timing.specs.Timing.{Timed, Refused};
-ghost use Rattle.timing.specs.Pacing.{PaceInRange, Raises, Fastest};
+ghost use Rattle.timing.specs.Pacing.{PaceInRange, with-pace, Raises, FastestPace};
 use crate::pace::fastest_of;
 use crate::pace::raise_net;
 use crate::solve::solve_net;
@@ -55,21 +55,29 @@ fn in_range(pace: Pace) -> bool
     1 <= pace.share && pace.share <= 1_000_000 && 1 <= pace.unit && pace.unit <= 10_000_000_000
 }
 
-// One round of raising the pace: a search at the given pace. There is no answer only where a net cannot have the pace.
-pub fn raise(net: &SoundNet, pace: Pace) -> Option<Raised>
-    ensures { λ r. ⌜ BySome r (PaceInRange pace → ⊥) (λ x. PaceInRange pace × Raises (of-net (now (net .entry) .net)) pace x) ⌝ }
+// The same net at another pace. There is none only where a net cannot have the pace.
+pub fn at_pace(net: &SoundNet, pace: Pace) -> Option<SoundNet>
+    ensures { λ r. ⌜ BySome r (PaceInRange pace → ⊥) (λ s. PaceInRange pace × (s .net ≡ with-pace (now (net .entry) .net) pace)) ⌝ }
 {
     if !in_range(pace) {
         return None;
     }
     let mut at = net.net;
     at.pace = pace;
-    Some(raise_net(&at))
+    Some(SoundNet { net: at })
+}
+
+// One round of raising the pace: a search at the given pace. There is no answer only where a net cannot have the pace.
+pub fn raise(net: &SoundNet, pace: Pace) -> Option<Raised>
+    ensures { λ r. ⌜ BySome r (PaceInRange pace → ⊥) (λ x. PaceInRange pace × Raises (of-net (now (net .entry) .net)) pace x) ⌝ }
+{
+    let at = at_pace(net, pace)?;
+    Some(raise_net(&at.net))
 }
 
 // The fastest pace of the net, in lowest terms, where some pace has a timetable.
 pub fn fastest_pace(net: &SoundNet) -> Option<Pace>
-    ensures { λ r. ⌜ BySome r (NoPace (of-net (now (net .entry) .net))) (Fastest (of-net (now (net .entry) .net))) ⌝ }
+    ensures { λ r. ⌜ BySome r (NoPace (of-net (now (net .entry) .net))) (FastestPace (of-net (now (net .entry) .net))) ⌝ }
 {
     fastest_of(&net.net)
 }

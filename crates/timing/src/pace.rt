@@ -12,7 +12,7 @@ ghost use Rattle.rules.specs.Steps.{PairCircuit};
 ghost use Rattle.nets.specs.Views.{of-net, of-step, step-of, Good};
 ghost use Rattle.timing.specs.Listing.{steps-of};
 ghost use Rattle.timing.specs.Timing.{Refused};
-ghost use Rattle.timing.specs.Pacing.{pair-of, named-by, Raises, FirstPace, lowest-terms, Fastest};
+ghost use Rattle.timing.specs.Pacing.{pair-of, named-by, Raises, FirstPace, lowest-terms, FastestPace};
 use crate::Circuit;
 use crate::Raised;
 use crate::edges::PairOfStep;
@@ -137,7 +137,7 @@ fn reduced(pace: Pace) -> Pace
 // The fastest pace of a net that is known to be sound, where some pace has a timetable.
 pub(crate) fn fastest_of(net: &Net) -> Option<Pace>
     requires good { ⌜ Good (now net) ⌝ }
-    ensures { λ r. ⌜ BySome r (NoPace (of-net (now (net .entry)))) (Fastest (of-net (now (net .entry)))) ⌝ }
+    ensures { λ r. ⌜ BySome r (NoPace (of-net (now (net .entry)))) (FastestPace (of-net (now (net .entry)))) ⌝ }
 {
     if pairs_above(net) {
         return None;

@@ -24,6 +24,13 @@ use search::Edge;
 use search::Outcome;
 use search::Round;
 
+// A start, of a length in ticks that is not below 0.
+fn start_at(best: Ticks) -> u64
+    ensures { λ r. ⌜ r ≡ start-of best ⌝ }
+{
+    best.ticks.unsigned_abs()
+}
+
 // The starts of the first stations.
 fn take_starts(best: &[Ticks; 64], stations: usize) -> Starts
     requires { ⌜ stations ≤ 64 ⌝ }
@@ -31,7 +38,7 @@ fn take_starts(best: &[Ticks; 64], stations: usize) -> Starts
 {
     let mut ticks = [0; 64];
     for y in 0..stations {
-        ticks[y] = best[y].ticks.unsigned_abs();
+        ticks[y] = start_at(best[y]);
     }
     Starts { ticks }
 }

@@ -1,7 +1,7 @@
 use mathlib.Core.Path.{_≡_, refl, sym, subst, ap}
 use Rattle.nets.specs.declared.Net.{Net}
 use Rattle.nets.specs.Views.{of-net, Good}
-use Rattle.timing.specs.Pacing.{with-pace, Raises, Fastest}
+use Rattle.timing.specs.Pacing.{with-pace, Raises, FastestPace}
 use Rattle.timing.specs.declared.Raised.the-variants.{Enough, To, Never}
 use Rattle.timing.proofs.Paced.{good-at, named-in-range, raises-back, own-named, fastest-named, divisor-some, falls, no-pace}
 use Rattle.timing.proofs.pace.fastest_of.Needs as need
@@ -25,7 +25,7 @@ returns-in-Enough c =
     let i = c .loop-pace .inv in
     let p = c .loop-pace .at .pace in
     let r = subst (λ (z : Net). Raises (of-net z) p Enough) (i .0) (c .in-Enough .ensures tt) in
-    subst (Fastest (of-net (c .args .net .now))) (sym (c .reduced .ensures)) (fastest-named (c .args .net .now) (c .pre .good) p (i .1) r)
+    subst (FastestPace (of-net (c .args .net .now))) (sym (c .reduced .ensures)) (fastest-named (c .args .net .now) (c .pre .good) p (i .1) r)
 
 pub loop-pace-less : need.loop-pace-less
 loop-pace-less c =
