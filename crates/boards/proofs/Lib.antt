@@ -1,2 +1,3 @@
 pub mod Offering
 pub mod Writing
+pub mod Beginning

@@ -1,3 +1,5 @@
 pub mod Refusals
 pub mod Offers
 pub mod Loading
+pub mod Showing
+pub mod Surveys
