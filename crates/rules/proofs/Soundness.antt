@@ -12,8 +12,8 @@ module _ (N : Net) (C : Checked N) (R : Rated N) where
     share = C .share .0;
     unit = C .unit .0;
     linked = λ k l o. (
-      let K = C .linked k l o in
-      record { from-station = K .from-station; to-station = K .to-station; gives = K .gives; takes = K .takes; room = λ c e. K .room c e .1; balanced = R .balanced k l o });
+        let K = C .linked k l o in
+        record { from-station = K .from-station; to-station = K .to-station; gives = K .gives; takes = K .takes; room = λ c e. K .room c e .1; balanced = R .balanced k l o });
   }
 
   pub in-range : InRange N
