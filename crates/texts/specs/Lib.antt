@@ -1,0 +1,5 @@
+pub mod Lexemes
+pub mod Faults
+pub mod NetText
+pub mod NetForm
+pub mod Reading
