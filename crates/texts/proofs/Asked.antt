@@ -122,9 +122,12 @@ module _ (x y : Reader) (fault : ℕ → Option DraftFault) (b : Bounds fault) (
       let g : fault v ≡ Some m = b .capped v ∙ ap fault a ∙ f in
       ap (λ z. form.judged (verdict z) (x .at) (form.run (x .at + q) (k v) (drop q (rest x)))) g
 
+  pub number-refused : (n : ℕ) → Numbered (number-at (rest x)) x (Ok n) y → (m : DraftFault) → fault n ≡ Some m → form.run (x .at) (asked fault k) (rest x) ≡ form.refused m (x .at)
+  number-refused n e m f = out-by n (number-at (rest x)) e m f
+
   pub number-out : (n : ℕ) → Numbered (number-at (rest x)) x (Ok n) y → (m : DraftFault) → fault n ≡ Some m
       → (d : TextFault) → said d ≡ form.refused m (x .at) → Worded (now (x .text)) d → Halts x (asked fault k) d
-  number-out n e m f d s w = record { runs = out-by n (number-at (rest x)) e m f ∙ sym s; worded = w }
+  number-out n e m f d s w = record { runs = number-refused n e m f ∙ sym s; worded = w }
 
   err-by : (d : TextFault) (o : Lexed) → Numbered o x (Err d) y → (form.numbered o (λ v. verdict (fault v)) (x .at) (λ v m. form.run (x .at + m) (k v) (drop m (rest x))) ≡ said d) × Worded (now (x .text)) d
   err-by d none e = (sym (e .0), e .1)

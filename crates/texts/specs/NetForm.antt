@@ -10,7 +10,7 @@ use Rattle.drafts.specs.declared.fault.DraftFault.{DraftFault}
 use Rattle.drafts.specs.Faults.{range-fault, station-fault}
 use Rattle.forms.specs.Form.{Form, done, mark, numb, dash-or}
 use Rattle.forms.specs.Lines.{word, line}
-use Rattle.texts.specs.NetText.{Entries, verdict, capacity-fault}
+use Rattle.texts.specs.NetText.{Entries, verdict, room-fault}
 
 abbrev pub NetForm : Type 0
 NetForm = Form DraftFault Entries
@@ -36,7 +36,7 @@ abbrev pub ends-entry : ℕ → (LinkEnds → NetForm) → NetForm
 ends-entry n k = asked (station-fault 1 n) (λ i. mark 62 (asked (station-fault 2 n) (λ j. k (record { from = i; to = j }))))
 
 abbrev pub capacity-entry : ℕ → ℕ → (Option ℕ → NetForm) → NetForm
-capacity-entry link stock k = dash-or (λ c. verdict (capacity-fault link stock c)) k
+capacity-entry link stock k = dash-or (λ c. verdict (room-fault link stock c)) k
 
 abbrev pub terms-entry : ℕ → (LinkTerms → NetForm) → NetForm
 terms-entry link k =

@@ -52,12 +52,12 @@ abbrev pub ends-pieces : ℕ → LinkEnds → List (Piece DraftFault)
 ends-pieces n e = number (station-fault 1 n) (e .from) ∷ byte 62 ∷ number (station-fault 2 n) (e .to) ∷ []
 
 -- a capacity has its range, and is then not below the stock
-abbrev pub capacity-fault : ℕ → ℕ → ℕ → Option DraftFault
-capacity-fault link stock c = or-else (range-fault 4 0 10_000 c) (below-stock link stock (Some c))
+abbrev pub room-fault : ℕ → ℕ → ℕ → Option DraftFault
+room-fault link stock c = or-else (range-fault 4 0 10_000 c) (below-stock link stock (Some c))
 
 abbrev pub capacity-piece : ℕ → ℕ → Option ℕ → Piece DraftFault
 capacity-piece link stock None = byte 45
-capacity-piece link stock (Some c) = number (capacity-fault link stock) c
+capacity-piece link stock (Some c) = number (room-fault link stock) c
 
 -- `w:v:u:c`, the terms of the link of this number
 abbrev pub terms-pieces : ℕ → LinkTerms → List (Piece DraftFault)

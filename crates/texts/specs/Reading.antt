@@ -10,6 +10,7 @@ use Rattle.std.specs.declared.option.Option.the-variants.{Some, None}
 use Rattle.std.specs.declared.result.Result.{Result}
 use Rattle.std.specs.declared.result.Result.the-variants.{Ok, Err}
 use Rattle.drafts.specs.declared.fault.DraftFault.{DraftFault}
+use Rattle.drafts.specs.Entries.{capacity-fault, below-stock}
 use Rattle.forms.specs.Marks.{Lexed, none, led, number}
 use Rattle.forms.specs.Form.{done, Outcome, got, broken, refused, run}
 use Rattle.texts.specs.declared.fault.TextFault.{TextFault}
@@ -17,7 +18,7 @@ use Rattle.texts.specs.declared.fault.TextFault.the-variants.{Form, Draft}
 use Rattle.texts.specs.declared.reader.Reader.{Reader}
 use Rattle.texts.specs.Faults.{Worded}
 use Rattle.texts.specs.NetText.{Entries}
-use Rattle.texts.specs.NetForm.{NetForm, asked}
+use Rattle.texts.specs.NetForm.{NetForm, asked, capacity-entry}
 
 abbrev pub rest : Reader → List ℕ
 rest x = drop (x .at) (now (x .text))
@@ -68,6 +69,13 @@ Placed t p (Err f) r = Cases r (λ _. ⊥) (λ e. (said e ≡ refused f p) × Wo
 pub record Asks (x : Reader) (fault : ℕ → Option DraftFault) (r : Result ℕ TextFault) (y : Reader) : Type 0 where
   pub reads : Reads x (asked fault) r y
   pub fine : Cases r (λ v. fault v ≡ None) (λ e. Unit {0})
+
+-- A capacity in its range, or a dash: what follows depends on whether it is below the stock, which is not known yet.
+pub record ReadsCapacity (x : Reader) (r : Result (Option ℕ) TextFault) (y : Reader) : Type 0 where
+  pub fits : (link stock : ℕ) (k : Option ℕ → NetForm) → Cases r (λ c. below-stock link stock c ≡ None → Goes x (capacity-entry link stock k) y (k c)) (λ e. Halts x (capacity-entry link stock k) e)
+  pub below : (link stock : ℕ) (k : Option ℕ → NetForm) → Cases r (λ c. (f : DraftFault) → below-stock link stock c ≡ Some f → run (x .at) (capacity-entry link stock k) (rest x) ≡ refused f (x .at)) (λ e. Unit {0})
+  pub fine : Cases r (λ c. capacity-fault c ≡ None) (λ e. Unit {0})
+  pub same : Cases r (λ c. now (y .text) ≡ now (x .text)) (λ e. Unit {0})
 
 -- a part that is read into a table has what the table holds then for its value
 abbrev pub filled : {X : Type 0} → Result (Unit {0}) TextFault → X → Result X TextFault

@@ -3,6 +3,7 @@ ghost use lib.ListN.{length};
 ghost use denote.Ref.{now};
 
 mod items;
+mod numbers;
 
 // A text, and the place up to which it is read.
 #[derive(Drop)]
