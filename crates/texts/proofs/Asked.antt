@@ -142,12 +142,12 @@ pub asks-err : (x y : Reader) (fault : ℕ → Option DraftFault) → Bounds fau
     → (r : Result ℕ TextFault) → (e : TextFault) × (r ≡ Err e) × (e ≡ d) → Asks x fault r y
 asks-err x y fault b d h r p =
     subst (λ z. Asks x fault z y) (sym (p .1 ∙ ap Err (p .2)))
-    (record { reads = λ k. number-err x y fault b k d h; fine = tt })
+    (record { reads = λ k. number-err x y fault b k d h; fine = tt; same = tt })
 
 pub asks-placed : (x y : Reader) (fault : ℕ → Option DraftFault) → Bounds fault → (n : ℕ) → Numbered (number-at (rest x)) x (Ok n) y → now (y .text) ≡ now (x .text)
     → (a : Result ℕ DraftFault) → Judges fault n a → (r : Result ℕ TextFault) → Placed (now (y .text)) (x .at) a r → Asks x fault r y
 asks-placed x y fault b n h s (Ok v) j r p =
-    subst (λ z. Asks x fault z y) (sym (p ∙ ap Ok (j .0))) (record { reads = λ k. number-fine x y fault b k n h s (j .1); fine = j .1 })
+    subst (λ z. Asks x fault z y) (sym (p ∙ ap Ok (j .0))) (record { reads = λ k. number-fine x y fault b k n h s (j .1); fine = j .1; same = s })
 asks-placed x y fault b n h s (Err f) j (Ok v) p = absurd p
 asks-placed x y fault b n h s (Err f) j (Err d) p =
-    record { reads = λ k. number-out x y fault b k n h f j d (p .0) (subst (λ t. Worded t d) s (p .1)); fine = tt }
+    record { reads = λ k. number-out x y fault b k n h f j d (p .0) (subst (λ t. Worded t d) s (p .1)); fine = tt; same = tt }

@@ -2,3 +2,4 @@ pub mod Steps
 pub mod Chains
 pub mod Asked
 pub mod Capacities
+pub mod Taken

@@ -3,3 +3,4 @@ pub mod Faults
 pub mod NetText
 pub mod NetForm
 pub mod Reading
+pub mod Rows

@@ -69,6 +69,7 @@ Placed t p (Err f) r = Cases r (λ _. ⊥) (λ e. (said e ≡ refused f p) × Wo
 pub record Asks (x : Reader) (fault : ℕ → Option DraftFault) (r : Result ℕ TextFault) (y : Reader) : Type 0 where
   pub reads : Reads x (asked fault) r y
   pub fine : Cases r (λ v. fault v ≡ None) (λ e. Unit {0})
+  pub same : Cases r (λ v. now (y .text) ≡ now (x .text)) (λ e. Unit {0})
 
 -- A capacity in its range, or a dash: what follows depends on whether it is below the stock, which is not known yet.
 pub record ReadsCapacity (x : Reader) (r : Result (Option ℕ) TextFault) (y : Reader) : Type 0 where

@@ -4,6 +4,7 @@ ghost use denote.Ref.{now};
 
 mod items;
 mod numbers;
+mod rows;
 
 // A text, and the place up to which it is read.
 #[derive(Drop)]

@@ -1,0 +1,79 @@
+-- Entries that are read and taken by a stage.
+use Prim.Native.Nat.{ℕ, suc, _+_, _<_, _≤_}
+use mathlib.Core.Path.{_≡_, refl, sym, ap, subst, _∙_}
+use mathlib.Core.Bool.{true, false}
+use mathlib.Core.List.{List, [], _∷_, _++_}
+use native.Mathlib.Omega.{arith}
+use lib.Dec.{leb}
+use lib.ListN.{length, take, drop, set}
+use Rattle.std.proofs.shelf.Lists.{take-more-set, drop-set-lt, length-set}
+use Rattle.std.proofs.shelf.Ways.{tells}
+use Rattle.std.specs.Vec.{made}
+use Rattle.std.specs.declared.option.Option.{Option}
+use Rattle.std.specs.declared.option.Option.the-variants.{Some, None}
+use Rattle.std.specs.declared.result.Result.{Result}
+use Rattle.std.specs.declared.result.Result.the-variants.{Ok, Err}
+use Rattle.drafts.specs.declared.fault.DraftFault.{DraftFault}
+use Rattle.drafts.specs.declared.stage.Durations.{Durations}
+use Rattle.drafts.specs.declared.stage.Ends.{Ends}
+use Rattle.drafts.specs.declared.stage.Terms.{Terms}
+use Rattle.drafts.specs.declared.tables.Tables.{Tables}
+use Rattle.nets.specs.declared.LinkEnds.{LinkEnds}
+use Rattle.nets.specs.declared.LinkTerms.{LinkTerms}
+use Rattle.drafts.specs.Faults.{or-else}
+use Rattle.drafts.specs.Entries.{duration-fault, ends-fault, terms-fault, room-fault}
+use Rattle.drafts.specs.Stages.{past, TookDuration, TookEnds, TookTerms}
+use Rattle.forms.specs.Lines.{rows}
+use Rattle.texts.specs.declared.fault.TextFault.{TextFault}
+use Rattle.texts.specs.declared.reader.Reader.{Reader}
+use Rattle.texts.specs.NetForm.{NetForm}
+use Rattle.texts.specs.Reading.{Goes, Halts, Found, Placed}
+use Rattle.texts.specs.Rows.{ReadsRow}
+use Rattle.texts.proofs.Chains.{leave}
+
+-- the exit of a `?`
+pub row-left : {X : Type 0} (form : ℕ → (X → NetForm) → NetForm) (x : Reader) (before : List X) (r : Result (Unit {0}) TextFault) (y : Reader) (after : List X) (e : TextFault)
+    → (d : TextFault) × (r ≡ Err d) × (d ≡ e) → ((n : ℕ) (k : List X → NetForm) → Halts x (rows form (suc n) before k) e) → ReadsRow form x before r y after
+row-left form x before r y after e p h = λ n k. leave r e (λ _. rows form n after k) y p (h n k)
+
+-- the entry stands behind the others
+pub row-taken : {X : Type 0} (form : ℕ → (X → NetForm) → NetForm) (x : Reader) (before : List X) (r : Result (Unit {0}) TextFault) (y : Reader) (after : List X) (d : X)
+    → r ≡ Ok tt → after ≡ before ++ d ∷ [] → ((n : ℕ) (k : List X → NetForm) → Goes x (rows form (suc n) before k) y (rows form n (before ++ d ∷ []) k)) → ReadsRow form x before r y after
+row-taken {X} form x before r y after d e a h =
+    λ n k. subst (λ z. Found x (rows form (suc n) before k) z (λ _. rows form n after k) y) (sym e)
+    (subst (λ (l : List X). Goes x (rows form (suc n) before k) y (rows form n l k)) (sym a) (h n k))
+
+pub made-ok : {X E : Type 0} (r : Result X E) (x : X) (P : X → Type 0) → r ≡ Ok x → P x → made r P
+made-ok r x P e h = subst (λ z. made z P) (sym e) h
+
+-- a column with one entry more
+module _ {X : Type 0} (xs ys : List X) (i j : ℕ) (d : X) (e : j ≡ i + 1) (s : ys ≡ set xs i d) where
+  pub column-front : i < length xs → take j ys ≡ take i xs ++ d ∷ []
+  column-front l = ap (λ n. take n ys) e ∙ ap (λ l. take (i + 1) l) s ∙ take-more-set xs i d l
+
+  pub column-behind : drop j ys ≡ drop j xs
+  column-behind = ap (drop j) s ∙ drop-set-lt j xs i d (omega arith)
+
+  pub column-long : length ys ≡ length xs
+  column-long = ap length s ∙ length-set xs i d
+
+not-past : (size held : ℕ) → held < size → past size held ≡ None
+not-past size held h = grind (arith, tells)
+
+none-some : {f : DraftFault} (o : Option DraftFault) → o ≡ None → o ≡ Some f → ⊥
+none-some o p q = let z : _≡_ {A = ℕ} 0 1 = cc in omega arith
+
+-- a stage refuses no entry that is in its range and not past the size
+pub took-duration : (s s′ : Durations) (t t′ : Tables) (d : ℕ) (a : Result (Unit {0}) DraftFault) (r : Result (Unit {0}) TextFault) (b : List ℕ) (p : ℕ)
+    → TookDuration s t d a s′ t′ → Placed b p a r → s .held < s .sizes .stations → duration-fault d ≡ None
+    → (r ≡ Ok tt) × (s′ .sizes ≡ s .sizes) × (s′ .held ≡ s .held + 1) × (t′ ≡ record { durations = set (t .durations) (s .held) d; ends = t .ends; terms = t .terms })
+took-duration s s′ t t′ d (Ok u) r b p h q l f = (q, h .1, h .2, h .3)
+took-duration s s′ t t′ d (Err e) r b p h q l f =
+    absurd (none-some _ (ap (λ o. or-else o (duration-fault d)) (not-past (s .sizes .stations) (s .held) l) ∙ f) (h .0))
+
+pub took-ends : (s s′ : Ends) (t t′ : Tables) (d : LinkEnds) (a : Result (Unit {0}) DraftFault) (r : Result (Unit {0}) TextFault) (b : List ℕ) (p : ℕ)
+    → TookEnds s t d a s′ t′ → Placed b p a r → s .held < s .sizes .links → ends-fault (s .sizes .stations) d ≡ None
+    → (r ≡ Ok tt) × (s′ .sizes ≡ s .sizes) × (s′ .held ≡ s .held + 1) × (t′ ≡ record { durations = t .durations; ends = set (t .ends) (s .held) d; terms = t .terms })
+took-ends s s′ t t′ d (Ok u) r b p h q l f = (q, h .1, h .2, h .3)
+took-ends s s′ t t′ d (Err e) r b p h q l f =
+    absurd (none-some _ (ap (λ o. or-else o (ends-fault (s .sizes .stations) d)) (not-past (s .sizes .links) (s .held) l) ∙ f) (h .0))
