@@ -2,6 +2,7 @@
 use Prim.Native.Nat.{ℕ, suc, _+_, _<_, _≤_}
 use mathlib.Core.Path.{_≡_, refl, sym, ap, subst, _∙_}
 use mathlib.Core.Bool.{true, false}
+use mathlib.Core.Logic.{_⊎_, inl, inr}
 use mathlib.Core.List.{List, [], _∷_, _++_}
 use native.Mathlib.Omega.{arith}
 use lib.Dec.{leb}
@@ -20,14 +21,16 @@ use Rattle.drafts.specs.declared.stage.Terms.{Terms}
 use Rattle.drafts.specs.declared.tables.Tables.{Tables}
 use Rattle.nets.specs.declared.LinkEnds.{LinkEnds}
 use Rattle.nets.specs.declared.LinkTerms.{LinkTerms}
-use Rattle.drafts.specs.Faults.{or-else}
-use Rattle.drafts.specs.Entries.{duration-fault, ends-fault, terms-fault, room-fault}
+use Rattle.drafts.specs.Faults.{or-else, range-fault, station-fault}
+use Rattle.drafts.specs.Entries.{duration-fault, ends-fault, terms-fault, capacity-fault, room-fault}
 use Rattle.drafts.specs.Stages.{past, TookDuration, TookEnds, TookTerms}
+use Rattle.forms.specs.Form.{refused}
 use Rattle.forms.specs.Lines.{rows}
 use Rattle.texts.specs.declared.fault.TextFault.{TextFault}
 use Rattle.texts.specs.declared.reader.Reader.{Reader}
+use Rattle.texts.specs.Faults.{Worded}
 use Rattle.texts.specs.NetForm.{NetForm}
-use Rattle.texts.specs.Reading.{Goes, Halts, Found, Placed}
+use Rattle.texts.specs.Reading.{said, Goes, Halts, Found, Placed}
 use Rattle.texts.specs.Rows.{ReadsRow}
 use Rattle.texts.proofs.Chains.{leave}
 
@@ -77,3 +80,33 @@ pub took-ends : (s s′ : Ends) (t t′ : Tables) (d : LinkEnds) (a : Result (Un
 took-ends s s′ t t′ d (Ok u) r b p h q l f = (q, h .1, h .2, h .3)
 took-ends s s′ t t′ d (Err e) r b p h q l f =
     absurd (none-some _ (ap (λ o. or-else o (ends-fault (s .sizes .stations) d)) (not-past (s .sizes .links) (s .held) l) ∙ f) (h .0))
+
+or-none : (a b : Option DraftFault) → or-else a b ≡ None → b ≡ None
+or-none None b e = e
+or-none (Some f) b e = let z : _≡_ {A = ℕ} 0 1 = cc in absurd (omega arith)
+
+-- of terms in their ranges it says only whether the capacity is below the stock
+pub took-terms : (s s′ : Terms) (t t′ : Tables) (d : LinkTerms) (a : Result (Unit {0}) DraftFault) (r : Result (Unit {0}) TextFault) (b : List ℕ) (p : ℕ)
+    → TookTerms s t d a s′ t′ → Placed b p a r → s .held < s .sizes .links → terms-fault d ≡ None
+    → ((r ≡ Ok tt) × (room-fault (s .held) d ≡ None) × (s′ .sizes ≡ s .sizes) × (s′ .held ≡ s .held + 1) × (t′ ≡ record { durations = t .durations; ends = t .ends; terms = set (t .terms) (s .held) d }))
+    ⊎ ((f : DraftFault) × (e : TextFault) × (r ≡ Err e) × (room-fault (s .held) d ≡ Some f) × (said e ≡ refused f p) × Worded b e)
+took-terms s s′ t t′ d (Ok u) r b p h q l f =
+    inl (q, sym (ap (λ o. or-else o (room-fault (s .held) d)) f) ∙ or-none (past (s .sizes .links) (s .held)) (or-else (terms-fault d) (room-fault (s .held) d)) (h .0), h .1, h .2, h .3)
+took-terms s s′ t t′ d (Err g) (Ok u) b p h q l f = absurd q
+took-terms s s′ t t′ d (Err g) (Err e) b p h q l f =
+    inr (g, e, refl, sym (ap (λ o. or-else o (or-else (terms-fault d) (room-fault (s .held) d))) (not-past (s .sizes .links) (s .held) l) ∙ ap (λ o. or-else o (room-fault (s .held) d)) f) ∙ h .0, q .0, q .1)
+
+-- terms are in their ranges number by number
+pub terms-fine : (t : LinkTerms) → range-fault 1 1 1_000 (t .produced) ≡ None → range-fault 2 1 1_000 (t .consumed) ≡ None → range-fault 3 0 10_000 (t .stock) ≡ None → capacity-fault (t .capacity) ≡ None → terms-fault t ≡ None
+terms-fine t p q r s = rw (p, q, r, s)
+
+pub ends-fine : (n m : ℕ) (e : LinkEnds) → n ≡ m → station-fault 1 n (e .from) ≡ None → station-fault 2 n (e .to) ≡ None → ends-fault m e ≡ None
+ends-fine n m e z p q = subst (λ m. ends-fault m e ≡ None) z (rw (p, q))
+
+-- the entry is refused
+pub row-halted : {X : Type 0} (form : ℕ → (X → NetForm) → NetForm) (x : Reader) (before : List X) (r : Result (Unit {0}) TextFault) (y : Reader) (after : List X) (e : TextFault)
+    → r ≡ Err e → ((n : ℕ) (k : List X → NetForm) → Halts x (rows form (suc n) before k) e) → ReadsRow form x before r y after
+row-halted form x before r y after e p h = row-left form x before r y after e (e, p, refl) h
+
+pub made-err : {X E : Type 0} (r : Result X E) (e : E) (P : X → Type 0) → r ≡ Err e → made r P
+made-err r e P p = subst (λ z. made z P) (sym p) tt

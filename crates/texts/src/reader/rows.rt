@@ -79,3 +79,73 @@ pub(crate) impl Rows for Durations as DurationRows {
         reader.placed(at, self.take(tables, duration))
     }
 }
+
+pub(crate) impl Rows for Ends as EndsRows {
+    type Entry = LinkEnds;
+
+    ghost form = { λ n i. ends-entry n };
+
+    ghost sizes = { λ s. s .sizes };
+
+    ghost held = { λ s. s .held };
+
+    ghost awaited = { λ s. s .links };
+
+    ghost column = { λ t. t .ends };
+
+    ghost others = { no-ends };
+
+    fn row<'a>(
+        &mut self,
+        reader: &mut Reader<'a>,
+        stations: u8,
+        tables: &mut Tables,
+    ) -> Result<(), TextFault<'a>> {
+        reader.mark(Mark::Space)?;
+        let from = reader.station(1, stations)?;
+        reader.mark(Mark::Arrow)?;
+        let at = reader.at;
+        let to = reader.station(2, stations)?;
+        reader.placed(at, self.take(tables, LinkEnds { from, to }))
+    }
+}
+
+pub(crate) impl Rows for Terms as TermsRows {
+    type Entry = LinkTerms;
+
+    ghost form = { λ n i. terms-entry i };
+
+    ghost sizes = { λ s. s .sizes };
+
+    ghost held = { λ s. s .held };
+
+    ghost awaited = { λ s. s .links };
+
+    ghost column = { λ t. t .terms };
+
+    ghost others = { no-terms };
+
+    fn row<'a>(
+        &mut self,
+        reader: &mut Reader<'a>,
+        _stations: u8,
+        tables: &mut Tables,
+    ) -> Result<(), TextFault<'a>> {
+        reader.mark(Mark::Space)?;
+        let produced = reader.batch(1)?;
+        reader.mark(Mark::Colon)?;
+        let consumed = reader.batch(2)?;
+        reader.mark(Mark::Colon)?;
+        let stock = reader.stock()?;
+        reader.mark(Mark::Colon)?;
+        let at = reader.at;
+        let capacity = reader.capacity()?;
+        let terms = LinkTerms {
+            produced,
+            consumed,
+            stock,
+            capacity,
+        };
+        reader.placed(at, self.take(tables, terms))
+    }
+}
