@@ -3,3 +3,4 @@ pub mod Chains
 pub mod Asked
 pub mod Capacities
 pub mod Taken
+pub mod Lines

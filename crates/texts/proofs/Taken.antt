@@ -15,6 +15,8 @@ use Rattle.std.specs.declared.option.Option.the-variants.{Some, None}
 use Rattle.std.specs.declared.result.Result.{Result}
 use Rattle.std.specs.declared.result.Result.the-variants.{Ok, Err}
 use Rattle.drafts.specs.declared.fault.DraftFault.{DraftFault}
+use Rattle.drafts.specs.declared.stage.NetSizes.{NetSizes}
+use Rattle.drafts.specs.declared.stage.Sizes.{Sizes}
 use Rattle.drafts.specs.declared.stage.Durations.{Durations}
 use Rattle.drafts.specs.declared.stage.Ends.{Ends}
 use Rattle.drafts.specs.declared.stage.Terms.{Terms}
@@ -22,8 +24,8 @@ use Rattle.drafts.specs.declared.tables.Tables.{Tables}
 use Rattle.nets.specs.declared.LinkEnds.{LinkEnds}
 use Rattle.nets.specs.declared.LinkTerms.{LinkTerms}
 use Rattle.drafts.specs.Faults.{or-else, range-fault, station-fault}
-use Rattle.drafts.specs.Entries.{duration-fault, ends-fault, terms-fault, capacity-fault, room-fault}
-use Rattle.drafts.specs.Stages.{past, TookDuration, TookEnds, TookTerms}
+use Rattle.drafts.specs.Entries.{sizes-fault, duration-fault, ends-fault, terms-fault, capacity-fault, room-fault}
+use Rattle.drafts.specs.Stages.{past, TookSizes, TookDuration, TookEnds, TookTerms}
 use Rattle.forms.specs.Form.{refused}
 use Rattle.forms.specs.Lines.{rows}
 use Rattle.texts.specs.declared.fault.TextFault.{TextFault}
@@ -110,3 +112,12 @@ row-halted form x before r y after e p h = row-left form x before r y after e (e
 
 pub made-err : {X E : Type 0} (r : Result X E) (e : E) (P : X → Type 0) → r ≡ Err e → made r P
 made-err r e P p = subst (λ z. made z P) (sym p) tt
+
+pub took-sizes : (s s′ : Sizes) (e : NetSizes) (a : Result (Unit {0}) DraftFault) (r : Result (Unit {0}) TextFault) (b : List ℕ) (p : ℕ)
+    → TookSizes s e a s′ → Placed b p a r → s .held ≡ 0 → sizes-fault e ≡ None → (r ≡ Ok tt) × (s′ .held ≡ 1) × (s′ .entry ≡ e)
+took-sizes s s′ e (Ok u) r b p h q l f = (q, h .2, h .1)
+took-sizes s s′ e (Err g) r b p h q l f =
+    absurd (none-some _ (ap (λ o. or-else o (sizes-fault e)) (not-past 1 (s .held) (omega (arith, l))) ∙ f) (h .0))
+
+pub sizes-fine : (e : NetSizes) → range-fault 1 1 64 (e .stations) ≡ None → range-fault 2 0 128 (e .links) ≡ None → range-fault 3 1 1_000_000 (e .pace .share) ≡ None → range-fault 4 1 10_000_000_000 (e .pace .unit) ≡ None → sizes-fault e ≡ None
+sizes-fine e p q r s = rw (p, q, r, s)

@@ -3,6 +3,7 @@ ghost use lib.ListN.{length};
 ghost use denote.Ref.{now};
 
 mod items;
+mod lines;
 mod numbers;
 mod rows;
 
