@@ -24,10 +24,10 @@ use Rattle.forms.specs.Form as form
 use Rattle.texts.specs.declared.fault.TextFault.{TextFault}
 use Rattle.texts.specs.declared.fault.TextFault.the-variants.{Form, Draft}
 use Rattle.texts.specs.declared.reader.Reader.{Reader}
-use Rattle.texts.specs.Faults.{Worded}
+use Rattle.texts.specs.Faults.{Worded, said}
 use Rattle.texts.specs.NetText.{verdict}
 use Rattle.texts.specs.NetForm.{NetForm, asked}
-use Rattle.texts.specs.Reading.{rest, said, Goes, Halts, Reads, Leaves, Numbered, Placed, Asks}
+use Rattle.texts.specs.Reading.{rest, Goes, Halts, Reads, Leaves, Numbered, Placed, Asks}
 use Rattle.texts.proofs.Steps.{number-none, number-led, number-zero, number-more, value-stop, leading-stop}
 
 -- what `number` finds

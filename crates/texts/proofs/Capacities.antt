@@ -23,11 +23,11 @@ use Rattle.texts.specs.declared.lexer.Mark.the-variants.{Dash}
 use Rattle.texts.specs.declared.lexer.Lexeme.the-variants.{Sign}
 use Rattle.texts.specs.declared.fault.TextFault.{TextFault}
 use Rattle.texts.specs.declared.reader.Reader.{Reader}
-use Rattle.texts.specs.Faults.{Worded}
+use Rattle.texts.specs.Faults.{Worded, said}
 use Rattle.texts.specs.Lexemes.{lexeme-at}
 use Rattle.texts.specs.NetText.{verdict, room-fault}
 use Rattle.texts.specs.NetForm.{NetForm, asked, capacity-entry}
-use Rattle.texts.specs.Reading.{rest, said, Goes, Halts, Numbered, Placed, ReadsCapacity}
+use Rattle.texts.specs.Reading.{rest, Goes, Halts, Numbered, Placed, ReadsCapacity}
 use Rattle.texts.proofs.Steps.{run-capacity-dash, run-capacity-number}
 use Rattle.texts.proofs.Asked.{Bounds, range-bounds, Judges, number-fine, number-refused, number-out, number-err}
 

@@ -12,9 +12,9 @@ use Rattle.texts.specs.declared.fault.TextFault.{TextFault}
 use Rattle.texts.specs.declared.fault.TextFault.the-variants.{Form, Draft}
 use Rattle.texts.specs.declared.reader.Reader.{Reader}
 use Rattle.texts.specs.Lexemes.{word-of}
-use Rattle.texts.specs.Faults.{Worded}
+use Rattle.texts.specs.Faults.{Worded, said}
 use Rattle.texts.specs.NetForm.{NetForm}
-use Rattle.texts.specs.Reading.{rest, said, Goes, Halts, Found, filled, Started}
+use Rattle.texts.specs.Reading.{rest, Goes, Halts, Found, filled, Started}
 
 -- one part, and then the next
 pub and-on : {x y z : Reader} {f g h : NetForm} → Goes x f y g → Goes y g z h → Goes x f z h

@@ -4,3 +4,5 @@ pub mod Asked
 pub mod Capacities
 pub mod Taken
 pub mod Lines
+pub mod NetTexts
+pub mod Fills

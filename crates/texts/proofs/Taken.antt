@@ -30,9 +30,9 @@ use Rattle.forms.specs.Form.{refused}
 use Rattle.forms.specs.Lines.{rows}
 use Rattle.texts.specs.declared.fault.TextFault.{TextFault}
 use Rattle.texts.specs.declared.reader.Reader.{Reader}
-use Rattle.texts.specs.Faults.{Worded}
+use Rattle.texts.specs.Faults.{Worded, said}
 use Rattle.texts.specs.NetForm.{NetForm}
-use Rattle.texts.specs.Reading.{said, Goes, Halts, Found, Placed}
+use Rattle.texts.specs.Reading.{Goes, Halts, Found, Placed}
 use Rattle.texts.specs.Rows.{ReadsRow}
 use Rattle.texts.proofs.Chains.{leave}
 

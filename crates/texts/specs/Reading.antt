@@ -12,11 +12,10 @@ use Rattle.std.specs.declared.result.Result.the-variants.{Ok, Err}
 use Rattle.drafts.specs.declared.fault.DraftFault.{DraftFault}
 use Rattle.drafts.specs.Entries.{capacity-fault, below-stock}
 use Rattle.forms.specs.Marks.{Lexed, none, led, number}
-use Rattle.forms.specs.Form.{done, Outcome, got, broken, refused, run}
+use Rattle.forms.specs.Form.{done, got, broken, refused, run}
 use Rattle.texts.specs.declared.fault.TextFault.{TextFault}
-use Rattle.texts.specs.declared.fault.TextFault.the-variants.{Form, Draft}
 use Rattle.texts.specs.declared.reader.Reader.{Reader}
-use Rattle.texts.specs.Faults.{Worded}
+use Rattle.texts.specs.Faults.{Worded, said}
 use Rattle.texts.specs.NetText.{Entries}
 use Rattle.texts.specs.NetForm.{NetForm, asked, capacity-entry}
 
@@ -25,11 +24,6 @@ rest x = drop (x .at) (now (x .text))
 
 abbrev pub Started : Reader → List ℕ → Type 0
 Started x t = (now (x .text) ≡ t) × (x .at ≡ 0)
-
--- what a fault says
-abbrev pub said : TextFault → Outcome DraftFault Entries
-said (Form w) = broken (w .at)
-said (Draft f w) = refused f (w .at)
 
 -- to read f from x on is to read g from y on
 pub record Goes (x : Reader) (f : NetForm) (y : Reader) (g : NetForm) : Type 0 where

@@ -5,7 +5,7 @@ ghost use denote.Ref.{now};
 mod items;
 mod lines;
 mod numbers;
-mod rows;
+pub(crate) mod rows;
 
 // A text, and the place up to which it is read.
 #[derive(Drop)]

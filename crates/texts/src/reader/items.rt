@@ -2,6 +2,7 @@
 ghost use mathlib.Core.Path.{_≡_};
 ghost use Prim.Native.Nat.{ℕ, _+_, _≤_};
 ghost use lib.ListN.{length, drop};
+ghost use Rattle.std.specs.declared.result.Result.the-variants.{Err};
 ghost use Rattle.forms.specs.Marks.{number-at};
 ghost use Rattle.forms.specs.Form.{mark};
 ghost use Rattle.forms.specs.Lines.{word};
@@ -67,6 +68,13 @@ impl<'a> Reader<'a> {
                 Err(Located { fault, word })?
             }
         }
+    }
+
+    // A fault of the draft that is found here.
+    pub(crate) fn here<T>(&self, fault: DraftFault) -> Result<T, TextFault<'a>>
+        ensures { λ r. ⌜ Placed (now (now (self .entry) .text)) (now (self .entry) .at) (Err fault) r ⌝ }
+    {
+        self.placed(self.at, Err(fault))
     }
 
     // One of the marks.
