@@ -3,3 +3,5 @@ pub mod Offers
 pub mod Loading
 pub mod Showing
 pub mod Surveys
+pub mod TextLoading
+pub mod Planning

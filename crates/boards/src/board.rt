@@ -4,6 +4,7 @@ ghost use Rattle.nets.specs.Views.{of-net};
 use nets::sound::SoundNet;
 
 mod load;
+mod load_text;
 mod shown;
 
 // A net, and its least timetable: the starts of its stations, in ticks.

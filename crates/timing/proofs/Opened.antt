@@ -76,8 +76,8 @@ module _ (N : Net) (k : ℕ) (l : Link) (G : Good N) (o : Open (of-net N) k (of-
       let K = G .sound .linked k (of-link l) o in
       let from = placed N (l .ends .from) G (K .from-station) in
       let small : grain-of N l ≤ getD (N .rates) (l .ends .from) 0 =
-          le-of-dvd (omega (arith, rate-read N (l .ends .from) (station N (l .ends .from) (K .from-station)), G .sound .recurring (l .ends .from) (K .from-station)))
-          (gcd-is (getD (N .rates) (l .ends .from) 0) (getD (N .rates) (l .ends .to) 0) .left) in
+      le-of-dvd (omega (arith, rate-read N (l .ends .from) (station N (l .ends .from) (K .from-station)), G .sound .recurring (l .ends .from) (K .from-station)))
+      (gcd-is (getD (N .rates) (l .ends .from) 0) (getD (N .rates) (l .ends .to) 0) .left) in
       record {
         from = from;
         to = placed N (l .ends .to) G (K .to-station);

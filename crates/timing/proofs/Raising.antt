@@ -128,13 +128,17 @@ module _ (N : Net) (G : Good N) (c : Circuit) (R : Refused N c) where
         | inl (inl p) ↦ absurd (omega (arith, lt-out (pos 0) s p))
         | inl (inr (p, h)) ↦ absurd (omega (arith, ap up p, ap down p))
         | inr (n, h, f, g) ↦
-            (let m : natAbs s ≡ n = omega (arith, ap up f, ap down f, neg-is (pos n), abs-is s) in
-            (record {
-              steps = ks; circuit = R .told .circuit; shares = f ∙ ap (λ z. negℤ (pos z)) (sym m); time = refl;
-              share = (omega (arith, right-pos (N .pace .unit) t (omega (arith, g))), time-small);
-              unit = (omega arith, shares-small);
-             },
-             omega (arith, g, ap (λ z. N .pace .share * z) m)))
+            (let m : natAbs s ≡ n = omega (arith, ap up f, ap down f, neg-is (pos n), abs-is s) in (
+              record {
+                steps = ks;
+                circuit = R .told .circuit;
+                shares = f ∙ ap (λ z. negℤ (pos z)) (sym m);
+                time = refl;
+                share = (omega (arith, right-pos (N .pace .unit) t (omega (arith, g))), time-small);
+                unit = (omega arith, shares-small);
+              },
+              omega (arith, g, ap (λ z. N .pace .share * z) m),
+            ))
       ]
 
   by-test : (b : Bool) → ltZ (shares-of M ks) (pos 0) ≡ b → Raises M (N .pace) (cond b (To (record { share = time-of M ks; unit = natAbs (shares-of M ks) })) Never)

@@ -77,7 +77,10 @@ fn link_grain(net: &Net, ends: LinkEnds) -> u64
     requires inside { ⌜ ends .from < 64 ⌝ ∗ ⌜ ends .to < 64 ⌝ }
     ensures { λ r. ⌜ r ≡ gcd (getD (now (net .entry) .rates) (ends .from) 0) (getD (now (net .entry) .rates) (ends .to) 0) ⌝ }
 {
-    common_divisor(net.rates[ends.from as usize] as u64, net.rates[ends.to as usize] as u64)
+    common_divisor(
+        net.rates[ends.from as usize] as u64,
+        net.rates[ends.to as usize] as u64,
+    )
 }
 
 // The edge of a link's step from the station x to y, by what its parts are worth and by its grain.

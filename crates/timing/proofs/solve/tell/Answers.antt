@@ -43,6 +43,6 @@ returns c =
     record {
       count = refl;
       steps =
-        front-part xs (replicate 64 unused) (c .loop-t .told) (c .loop-t .t) (c .loop-t .inv) (omega (arith, length-map (around (c .args .round .now)) f, length-take-le n rs (omega (arith, w .0, w .1))))
-        ∙ ap (λ k. xs ++ drop k (replicate 64 unused)) e;
+          front-part xs (replicate 64 unused) (c .loop-t .told) (c .loop-t .t) (c .loop-t .inv) (omega (arith, length-map (around (c .args .round .now)) f, length-take-le n rs (omega (arith, w .0, w .1))))
+          ∙ ap (λ k. xs ++ drop k (replicate 64 unused)) e;
     }

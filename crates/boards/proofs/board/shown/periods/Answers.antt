@@ -11,5 +11,5 @@ loop-i-again c =
     let v = c .args .share * getD (c .args .rates .now) (c .loop-i .i) 0 in (
       length-set (c .loop-i .periods) (c .loop-i .i) v ∙ c .loop-i .inv .0,
       take-more-set (c .loop-i .periods) (c .loop-i .i) v (omega (arith, c .loop-i .inv .0)) ∙ ap (λ ys. ys ++ v ∷ []) (c .loop-i .inv .1)
-      ∙ sym (map-more (λ z. c .args .share * z) (c .args .rates .now) (c .loop-i .i) 0 (omega arith)),
+          ∙ sym (map-more (λ z. c .args .share * z) (c .args .rates .now) (c .loop-i .i) 0 (omega arith)),
     )
