@@ -4,8 +4,9 @@ use mathlib.Core.List.{List, [], _∷_, map}
 use Prim.Native.Nat.{ℕ, zero, suc, _*_, _^_, _≤_, _<_}
 use native.Mathlib.Omega.{arith}
 use lib.IntN.{ℤ, pos, natAbs}
-use lib.ListN.{length, getD, take, length-map, List·getD-map}
+use lib.ListN.{length, getD, take, drop, length-map, length-append, length-drop, List·getD-map}
 use Rattle.std.specs.declared.option.Option.the-variants.{Some, None}
+use Rattle.std.specs.Vec.{made}
 use Rattle.std.specs.declared.result.Result.{Result}
 use Rattle.std.specs.declared.result.Result.the-variants.{Ok, Err}
 use Rattle.std.proofs.shelf.Lists.{length-take-le, getD-take, getD-map}
@@ -37,6 +38,11 @@ use Rattle.boards.specs.declared.text.LoadFault.{LoadFault}
 use Rattle.boards.specs.declared.text.LoadFault.the-variants as faults
 use Rattle.boards.specs.TextLoading.{LoadedText}
 use Rattle.boards.specs.Planning.{told-bytes, Bounded, Tellable, Reports, unformed, misnumbered, unoffered, timed, untimed, Planned}
+
+-- a report ends within its buffer
+ends-within : (bytes out out′ : List ℕ) (r : Result ℕ ShortBuffer) → length out′ ≡ length out → Reported bytes out out′ r → made r (λ n. n ≤ length out)
+ends-within bytes out out′ (Ok n) same (room, e, q) = omega (arith, same, e, ap length q, length-append bytes (drop n out), length-drop n out)
+ends-within bytes out out′ (Err short) same w = tt
 
 -- The steps of a circuit that is told have numbers below 128, and lengths of at most 17 digits
 
@@ -136,3 +142,6 @@ module _ (text : List ℕ) (b b′ : Board) (list list′ : List CircuitStep) (l
 
   pub refusal-told : (out out′ : List ℕ) (a : Result ℕ ShortBuffer) (r : Refusal) → fault ≡ faults.Board r → Reported (told-bytes r list′) out out′ a → Planned text out out′ a
   refusal-told out out′ a r e w = record { bytes = told-bytes r list′; reports = reported r (as-told (faults.Board r) e); written = w }
+
+pub planned-within : (text out out′ : List ℕ) (r : Result ℕ ShortBuffer) → length out′ ≡ length out → Planned text out out′ r → made r (λ n. n ≤ length out)
+planned-within text out out′ r same P = ends-within (P .bytes) out out′ r same (P .written)

@@ -1,4 +1,7 @@
 // The whole way from a net text to the bytes of a report.
+ghost use Prim.Native.Nat.{_≤_};
+ghost use lib.ListN.{length};
+ghost use Rattle.std.specs.Vec.{made};
 ghost use Rattle.reports.specs.Reported.{Reported};
 ghost use Rattle.boards.specs.Planning.{Tellable, told-bytes, Planned};
 use crate::board::Board;
@@ -30,7 +33,8 @@ fn report_refused(
 
 // Loads a new board with a net text and writes its report, or that of the refusal: its length in bytes.
 pub fn plan(text: &[u8], out: &mut [u8]) -> Result<usize, ShortBuffer>
-    ensures { λ r. ⌜ Planned (now (text .entry)) (now (out .entry)) (now (out .exit)) r ⌝ }
+    ensures planned { λ r. ⌜ Planned (now (text .entry)) (now (out .entry)) (now (out .exit)) r ⌝ }
+    ensures within { λ r. ⌜ made r (λ n. n ≤ length (now (out .entry))) ⌝ }
 {
     let mut board = Board::new();
     let unused = CircuitStep {
