@@ -1,8 +1,8 @@
 -- What the search in ticks answers, told of the net. Assumes nothing.
 use mathlib.Core.Path.{_≡_, refl, ap, sym, subst, _∙_}
 use mathlib.Core.List.{List, [], _∷_, _++_, map}
-use mathlib.Core.Logic.{_⊎_, inl, inr}
-use Prim.Native.Nat.{ℕ, zero, suc, _+_, _-_, _*_, _≤_, _<_}
+use mathlib.Core.Logic.{inl, inr}
+use Prim.Native.Nat.{ℕ, zero, suc, _+_, _-_, _≤_, _<_}
 use native.Mathlib.Omega.{arith}
 use lib.ListN.{length, length-map, getD, take, drop, replicate}
 use lib.IntN.{ℤ, pos, natAbs}
@@ -18,7 +18,7 @@ use Rattle.rules.proofs.Sizes.{steps-sized}
 use Rattle.lengths.specs.declared.Ticks.{Ticks}
 use Rattle.lengths.specs.Models.{no-ticks, more-ticks, below-ticks}
 use Rattle.search.specs.declared.Round.{Round}
-use Rattle.search.specs.Terms.{begins, EdgeChain, LeastStarts, EdgeCircuit}
+use Rattle.search.specs.Terms.{LeastStarts, EdgeCircuit}
 use Rattle.search.specs.Answer.{Whole, around}
 use Rattle.search.proofs.Walking.{chain-in}
 use Rattle.nets.specs.declared.Net.{Net}
@@ -95,10 +95,10 @@ module _ (N : Net) (G : Good N) where
           least = subst (Least M) (sym (front-is 0 firsts (s .ticks) (N .stations) (G .whole .few) q k)) (least-as M (G .sound) best (N .stations) n L firsts firsts-long reads);
           rest = behind 0 firsts (s .ticks) (N .stations) (G .whole .few) q k;
           starts-sized = λ y.
-            elim (cases-lt y (N .stations)) [
-              | inl h ↦ omega (arith, at-front 0 firsts (s .ticks) (N .stations) (G .whole .few) q k y h, start-sized M (G .sound) best (N .stations) n L firsts firsts-long reads (G .range) y (omega arith))
-              | inr h ↦ omega (arith, behind 0 firsts (s .ticks) (N .stations) (G .whole .few) q k y h)
-            ];
+              elim (cases-lt y (N .stations)) [
+                | inl h ↦ omega (arith, at-front 0 firsts (s .ticks) (N .stations) (G .whole .few) q k y h, start-sized M (G .sound) best (N .stations) n L firsts firsts-long reads (G .range) y (omega arith))
+                | inr h ↦ omega (arith, behind 0 firsts (s .ticks) (N .stations) (G .whole .few) q k y h)
+              ];
         }
 
   module _ (steps : List code.Step) (all : map of-step steps ≡ steps-of M) where
@@ -157,8 +157,8 @@ module _ (N : Net) (G : Good N) where
             told = subst (Told M) (sym (ap (λ m. take m (r .steps)) n ∙ front-is unused front (r .steps) (w .count) (W .1) q k)) (told (around w) C);
             rest = λ t h. behind unused front (r .steps) (w .count) (W .1) q k t (omega arith);
             lengths-sized = λ t.
-              elim (cases-lt t (w .count)) [
-                | inl h ↦ omega (arith, ap (λ (z : CircuitStep). natAbs (z .length)) (at-front unused front (r .steps) (w .count) (W .1) q k t h), sized (around w) C t (omega (arith, long)))
-                | inr h ↦ omega (arith, ap (λ (z : CircuitStep). natAbs (z .length)) (behind unused front (r .steps) (w .count) (W .1) q k t h))
-              ];
+                elim (cases-lt t (w .count)) [
+                  | inl h ↦ omega (arith, ap (λ (z : CircuitStep). natAbs (z .length)) (at-front unused front (r .steps) (w .count) (W .1) q k t h), sized (around w) C t (omega (arith, long)))
+                  | inr h ↦ omega (arith, ap (λ (z : CircuitStep). natAbs (z .length)) (behind unused front (r .steps) (w .count) (W .1) q k t h))
+                ];
           }

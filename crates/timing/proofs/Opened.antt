@@ -1,11 +1,11 @@
 -- The program's net, read as the rules have it. Assumes nothing.
-use mathlib.Core.Path.{_≡_, refl, ap, sym, subst, _∙_}
+use mathlib.Core.Path.{_≡_, ap, sym, _∙_}
 use mathlib.Core.List.{List, map}
 use Prim.Native.Nat.{ℕ, _-_, _*_, _/_, _≤_, _<_}
 use native.Mathlib.Nat.{le-of-dvd, mul-le-mul, div-le-self}
 use native.Mathlib.Omega.{arith}
 use lib.ListN.{length, length-map, getD, take, List·getD-map}
-use lib.IntN.{ℤ, pos, negℤ, natAbs, _+ℤ_, _-ℤ_, _*ℤ_}
+use lib.IntN.{ℤ, pos, negℤ, _-ℤ_}
 use Rattle.std.proofs.shelf.Lists.{length-take, getD-take}
 use Rattle.std.specs.declared.option.Option.{Option}
 use Rattle.std.specs.declared.option.Option.the-variants.{Some, None}
@@ -14,7 +14,7 @@ use Rattle.handover.proofs.Gcd.{gcd-is}
 use Rattle.handover.proofs.Rates.{gcd-pos}
 use Rattle.rules.specs.Net as rules
 use Rattle.rules.specs.Net.{stations, duration, rate, Open}
-use Rattle.rules.specs.Steps.{Step, Has, forward, back, own, worth, grain, or-else, leads-from, time, shares, ticks}
+use Rattle.rules.specs.Steps.{forward, back, own, worth, grain, or-else}
 use Rattle.rules.proofs.Tested.{open-below}
 use Rattle.rules.proofs.Links.{link-is}
 use Rattle.search.specs.declared.Edge.{Edge}
@@ -76,8 +76,8 @@ module _ (N : Net) (k : ℕ) (l : Link) (G : Good N) (o : Open (of-net N) k (of-
       let K = G .sound .linked k (of-link l) o in
       let from = placed N (l .ends .from) G (K .from-station) in
       let small : grain-of N l ≤ getD (N .rates) (l .ends .from) 0 =
-          le-of-dvd (omega (arith, rate-read N (l .ends .from) (station N (l .ends .from) (K .from-station)), G .sound .recurring (l .ends .from) (K .from-station)))
-          (gcd-is (getD (N .rates) (l .ends .from) 0) (getD (N .rates) (l .ends .to) 0) .left) in
+      le-of-dvd (omega (arith, rate-read N (l .ends .from) (station N (l .ends .from) (K .from-station)), G .sound .recurring (l .ends .from) (K .from-station)))
+      (gcd-is (getD (N .rates) (l .ends .from) 0) (getD (N .rates) (l .ends .to) 0) .left) in
       record {
         from = from;
         to = placed N (l .ends .to) G (K .to-station);

@@ -1,7 +1,7 @@
 -- Paces of a good net, from the first one up to the fastest. Assumes nothing.
 use mathlib.Core.Path.{_≡_, refl, ap, sym, subst, _∙_}
-use mathlib.Core.List.{List, [], _∷_}
-use mathlib.Core.Logic.{_⊎_, inl, inr}
+use mathlib.Core.List.{[], _∷_}
+use mathlib.Core.Logic.{inl, inr}
 use Prim.Native.Nat.{ℕ, _+_, _-_, _*_, _/_, _≤_, _<_}
 use native.Mathlib.Nat.{le-of-mul-le-mul-left, mul-le-mul-left, div-le-self, add-zero}
 use native.Mathlib.Omega.{arith}
@@ -14,7 +14,7 @@ use Rattle.handover.proofs.Rates.{whole-left, whole-right, gcd-pos, parts-copri
 use Rattle.rules.specs.Net as rules
 use Rattle.rules.specs.Net.{at-pace, stations}
 use Rattle.rules.specs.Rules.{HasTimetable, NoPace}
-use Rattle.rules.specs.Steps.{Step, own, PairCircuit}
+use Rattle.rules.specs.Steps.{own, PairCircuit}
 use Rattle.rules.specs.Ranges.{InRange}
 use Rattle.rules.proofs.Paces.{sound-at, circuit-at, shares-of-at, time-of-at, pair-forbids}
 use Rattle.rules.proofs.Fastest.{rises, in-lowest}
@@ -78,18 +78,18 @@ module _ (N : Net) (G : Good N) where
   pub slower-found : (best i best′ : ℕ) → best < N .stations → Passed best i → getD (N .durations) best 0 * getD (N .rates) i 0 < getD (N .durations) i 0 * getD (N .rates) best 0 → best′ ≡ i → Passed best′ (i + 1)
   slower-found best i best′ hb p l e =
       subst (λ z. Passed z (i + 1)) (sym e) (λ j h.
-        elim (cases-lt j i) [
-          | inl k ↦ passes (getD (N .durations) j 0) (getD (N .rates) j 0) (getD (N .durations) best 0) (getD (N .rates) best 0) (getD (N .durations) i 0) (getD (N .rates) i 0) (rate-some best hb) (p j k) l
-          | inr k ↦ (let f : j ≡ i = omega arith in omega (arith, ap (λ z. getD (N .durations) z 0 * getD (N .rates) i 0) f, ap (λ z. getD (N .durations) i 0 * getD (N .rates) z 0) f))
-        ])
+      elim (cases-lt j i) [
+        | inl k ↦ passes (getD (N .durations) j 0) (getD (N .rates) j 0) (getD (N .durations) best 0) (getD (N .rates) best 0) (getD (N .durations) i 0) (getD (N .rates) i 0) (rate-some best hb) (p j k) l
+        | inr k ↦ (let f : j ≡ i = omega arith in omega (arith, ap (λ z. getD (N .durations) z 0 * getD (N .rates) i 0) f, ap (λ z. getD (N .durations) i 0 * getD (N .rates) z 0) f))
+      ])
 
   pub none-slower : (best i best′ : ℕ) → Passed best i → getD (N .durations) i 0 * getD (N .rates) best 0 ≤ getD (N .durations) best 0 * getD (N .rates) i 0 → best′ ≡ best → Passed best′ (i + 1)
   none-slower best i best′ p l e =
       subst (λ z. Passed z (i + 1)) (sym e) (λ j h.
-        elim (cases-lt j i) [
-          | inl k ↦ p j k
-          | inr k ↦ (let f : j ≡ i = omega arith in omega (arith, ap (λ z. getD (N .durations) z 0 * getD (N .rates) best 0) f, ap (λ z. getD (N .durations) best 0 * getD (N .rates) z 0) f))
-        ])
+      elim (cases-lt j i) [
+        | inl k ↦ p j k
+        | inr k ↦ (let f : j ≡ i = omega arith in omega (arith, ap (λ z. getD (N .durations) z 0 * getD (N .rates) best 0) f, ap (λ z. getD (N .durations) best 0 * getD (N .rates) z 0) f))
+      ])
 
   pub first-is : (best n : ℕ) → best < N .stations → N .stations ≤ n → Passed best n → FirstPace (of-net N) (record { share = getD (N .durations) best 0; unit = getD (N .rates) best 0 })
   first-is best n h k p =
@@ -123,11 +123,13 @@ module _ (N : Net) (G : Good N) where
       let a = p .share in
       let b = p .unit in
       let F = in-lowest (of-net N) (G .sound) (n .steps) (n .circuit) (gcd a b) (a / gcd a b) (b / gcd a b) a b (whole-left a b) (whole-right a b)
-              (parts-coprime (gcd-is a b) (gcd-pos a b (n .share .0)) (whole-left a b) (whole-right a b)) (n .share .0) (n .unit .0) has (n .shares) (n .time) in
-      (F, record {
-        share = (F .share, omega (arith, div-le-self a (gcd a b), n .share .1));
-        unit = (F .unit, omega (arith, div-le-self b (gcd a b), n .unit .1));
-      })
+      (parts-coprime (gcd-is a b) (gcd-pos a b (n .share .0)) (whole-left a b) (whole-right a b)) (n .share .0) (n .unit .0) has (n .shares) (n .time) in (
+        F,
+        record {
+          share = (F .share, omega (arith, div-le-self a (gcd a b), n .share .1));
+          unit = (F .unit, omega (arith, div-le-self b (gcd a b), n .unit .1));
+        },
+      )
 
   pub no-pace : PairCircuit (of-net N) → NoPace (of-net N)
   no-pace (c, C, p) = pair-forbids (of-net N) (G .sound) c C p

@@ -12,7 +12,7 @@ use borrow.Author.Differences.{le-out, lt-out, same-in}
 use Rattle.std.proofs.shelf.Tests.{false≢true, true≢false}
 use Rattle.rules.specs.Net.{Net, Sound}
 use Rattle.rules.specs.Rules.{SomePace}
-use Rattle.rules.specs.Steps.{Step, Has, leads-from, leads-to, shares, time, shares-of, time-of, PairAbove, PairCircuit, PairAtMost}
+use Rattle.rules.specs.Steps.{Step, leads-from, leads-to, shares, time, shares-of, time-of, PairAbove, PairCircuit, PairAtMost}
 use Rattle.rules.proofs.Existence.{pair-starts-allow}
 use Rattle.lengths.specs.Models.{no-pair, more-pair, below-pair}
 use Rattle.search.specs.declared.Edge.{Edge}
@@ -64,9 +64,11 @@ module _ (N : Net) where
 
   pub pair-circuit : (c : List ℕ) → EdgeCircuit no-pair more-pair below-pair es c → PairCircuit N
   pair-circuit c C =
-      let q = total-pairs c (C .closed .0) (C .closed .0) (C .closed .1) in
-      (map (step-at N) c, circuit-as N (pair N) c (C .closed) (C .once),
-       above-is (shares-of N (map (step-at N) c)) (time-of N (map (step-at N) c)) (ap (λ z. below-pair no-pair z) (sym q) ∙ C .above))
+      let q = total-pairs c (C .closed .0) (C .closed .0) (C .closed .1) in (
+        map (step-at N) c,
+        circuit-as N (pair N) c (C .closed) (C .once),
+        above-is (shares-of N (map (step-at N) c)) (time-of N (map (step-at N) c)) (ap (λ z. below-pair no-pair z) (sym q) ∙ C .above),
+      )
 
   module _ (S : Sound N) (best : List (ℤ × ℤ)) (n : ℕ) (L : LeastStarts no-pair more-pair below-pair n es best) where
     abbrev Suits : Step → Type 0
@@ -76,7 +78,7 @@ module _ (N : Net) where
     kept-at e h =
         let s = step-at N e in
         let moved : below-pair (getD best (leads-to N s) no-pair) (more-pair (getD best (leads-from N s) no-pair) (pair N s)) ≡ false =
-            (λ x. below-pair (getD best (sym (ends-at N (pair N) e h) x) no-pair) (more-pair (getD best (sym (begins-at N (pair N) e h) x) no-pair) (sym (lasts-at N (pair N) no-pair e h) x))) ∙ L .kept e h in
+        (λ x. below-pair (getD best (sym (ends-at N (pair N) e h) x) no-pair) (more-pair (getD best (sym (begins-at N (pair N) e h) x) no-pair) (sym (lasts-at N (pair N) no-pair e h) x))) ∙ L .kept e h in
         at-most-is (more-pair (getD best (leads-from N s) no-pair) (pair N s)) (getD best (leads-to N s) no-pair) moved
 
     pub some-pace : SomePace N

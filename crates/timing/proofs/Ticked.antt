@@ -1,8 +1,8 @@
 -- What the search in ticks says of the net. Assumes nothing.
-use mathlib.Core.Path.{_≡_, refl, ap, sym, subst, _∙_}
-use mathlib.Core.Bool.{true, false}
+use mathlib.Core.Path.{_≡_, refl, ap, sym, _∙_}
+use mathlib.Core.Bool.{false}
 use mathlib.Core.List.{List, [], _∷_, map}
-use Prim.Native.Nat.{ℕ, _*_, _≤_, _<_}
+use Prim.Native.Nat.{ℕ, _<_}
 use native.Mathlib.Omega.{arith}
 use lib.ListN.{length, length-map, getD}
 use lib.IntN.{ℤ, pos, natAbs, _+ℤ_}
@@ -10,7 +10,7 @@ use lib.Signed.{ltZ, _<ℤ_}
 use borrow.Author.Differences.{abs-is, sum-is, le-out, same-in}
 use Rattle.rules.specs.Net.{Net, Sound, stations, whole}
 use Rattle.rules.specs.Rules.{Least}
-use Rattle.rules.specs.Steps.{Step, Has, Kept, Chain, leads-from, leads-to, ticks, ticks-of}
+use Rattle.rules.specs.Steps.{Step, Kept, Chain, leads-from, leads-to, ticks, ticks-of}
 use Rattle.rules.specs.Ranges.{InRange}
 use Rattle.rules.proofs.Existence.{from-inside, to-inside}
 use Rattle.rules.proofs.Sizes.{chains-sized}
@@ -40,7 +40,7 @@ module _ (N : Net) where
       less (pos 0) (ticks-of N (map (step-at N) c)) (ap (λ z. below-ticks no-ticks z) (sym q) ∙ C .above)
 
   module _ (S : Sound N) (best : List Ticks) (n : ℕ) (en : stations N ≡ n) (least : LeastStarts no-ticks more-ticks below-ticks n es best)
-           (starts : List ℕ) (full : length starts ≡ stations N) (are : (y : ℕ) → y < n → getD starts y 0 ≡ natAbs (getD best y no-ticks .ticks)) where
+      (starts : List ℕ) (full : length starts ≡ stations N) (are : (y : ℕ) → y < n → getD starts y 0 ≡ natAbs (getD best y no-ticks .ticks)) where
     start-is : (y : ℕ) → y < stations N → pos (getD starts y 0) ≡ getD best y no-ticks .ticks
     start-is y h =
         let f = le-out (pos 0) (getD best y no-ticks .ticks) (no-less (getD best y no-ticks .ticks) (pos 0) (least .floor y (omega arith))) in
@@ -55,9 +55,9 @@ module _ (N : Net) where
         let a = start-is (leads-from N s) (from-inside N S s hs) in
         let b = start-is (leads-to N s) (to-inside N S s hs) in
         let moved : ltZ (pos y) (pos x +ℤ ticks N s) ≡ false =
-            (λ t. ltZ (b t) (a t +ℤ ticks N s))
-            ∙ (λ t. ltZ (getD best (sym (ends-at N (in-ticks N) e h) t) no-ticks .ticks) (getD best (sym (begins-at N (in-ticks N) e h) t) no-ticks .ticks +ℤ (sym (lasts-at N (in-ticks N) no-ticks e h) t) .ticks))
-            ∙ least .kept e h in
+        (λ t. ltZ (b t) (a t +ℤ ticks N s))
+        ∙ (λ t. ltZ (getD best (sym (ends-at N (in-ticks N) e h) t) no-ticks .ticks) (getD best (sym (begins-at N (in-ticks N) e h) t) no-ticks .ticks +ℤ (sym (lasts-at N (in-ticks N) no-ticks e h) t) .ticks))
+        ∙ least .kept e h in
         let l = le-out (pos x +ℤ ticks N s) (pos y) (no-less (pos y) (pos x +ℤ ticks N s) moved) in
         bound-in 1 x y (ticks N s) .1 (omega (arith, sum-is (pos x) (ticks N s)))
 

@@ -1,7 +1,7 @@
 // The steps of a net, listed, and as edges with their pairs and with their lengths in ticks.
 ghost use mathlib.Core.Path.{_≡_};
 ghost use mathlib.Core.List.{map, _++_};
-ghost use Prim.Native.Nat.{ℕ, _+_, _-_, _*_, _/_, _≤_, _<_};
+ghost use Prim.Native.Nat.{_+_, _-_, _*_, _/_, _≤_, _<_};
 ghost use lib.IntN.{ℤ, pos, negℤ, natAbs, _+ℤ_, _-ℤ_, _*ℤ_};
 ghost use lib.ListN.{length, getD, take};
 ghost use Rattle.handover.specs.Gcd.{gcd};
@@ -77,7 +77,10 @@ fn link_grain(net: &Net, ends: LinkEnds) -> u64
     requires inside { ⌜ ends .from < 64 ⌝ ∗ ⌜ ends .to < 64 ⌝ }
     ensures { λ r. ⌜ r ≡ gcd (getD (now (net .entry) .rates) (ends .from) 0) (getD (now (net .entry) .rates) (ends .to) 0) ⌝ }
 {
-    common_divisor(net.rates[ends.from as usize] as u64, net.rates[ends.to as usize] as u64)
+    common_divisor(
+        net.rates[ends.from as usize] as u64,
+        net.rates[ends.to as usize] as u64,
+    )
 }
 
 // The edge of a link's step from the station x to y, by what its parts are worth and by its grain.

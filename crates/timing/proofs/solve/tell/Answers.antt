@@ -1,5 +1,5 @@
 use mathlib.Core.Path.{_≡_, refl, ap, sym, _∙_}
-use mathlib.Core.List.{List, map, _++_}
+use mathlib.Core.List.{map, _++_}
 use Prim.Native.Nat.{ℕ}
 use native.Mathlib.Omega.{arith}
 use lib.ListN.{length, length-map, getD, take, drop, replicate}
@@ -43,6 +43,6 @@ returns c =
     record {
       count = refl;
       steps =
-        front-part xs (replicate 64 unused) (c .loop-t .told) (c .loop-t .t) (c .loop-t .inv) (omega (arith, length-map (around (c .args .round .now)) f, length-take-le n rs (omega (arith, w .0, w .1))))
-        ∙ ap (λ k. xs ++ drop k (replicate 64 unused)) e;
+          front-part xs (replicate 64 unused) (c .loop-t .told) (c .loop-t .t) (c .loop-t .inv) (omega (arith, length-map (around (c .args .round .now)) f, length-take-le n rs (omega (arith, w .0, w .1))))
+          ∙ ap (λ k. xs ++ drop k (replicate 64 unused)) e;
     }

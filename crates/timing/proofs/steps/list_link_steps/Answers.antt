@@ -1,10 +1,6 @@
-use mathlib.Core.Path.{_≡_, refl, ap, sym, _∙_}
-use Prim.Native.Nat.{_<_, _≤_, _+_}
+use mathlib.Core.Path.{_≡_, ap, _∙_}
 use native.Mathlib.Omega.{arith}
-use borrow.Author.Needs.{needs}
-use lib.ListN.{length, length-map, length-set, take, set}
-use Rattle.nets.specs.Views.{of-step}
-use Rattle.nets.specs.declared.Step.the-variants.{Forward, Back, Own}
+use lib.ListN.{length, length-map, take}
 use Rattle.nets.specs.Views.{of-net, of-link, of-slot}
 use Rattle.timing.specs.Listing.{links-to}
 use Rattle.timing.proofs.Opened.{opened, closed}
@@ -18,9 +14,9 @@ loop-k-again c =
     let N = of-net (c .args .net .now) in
     let k = c .loop-k .k in
     elim (c .match-slot .came) [
-      need.in-Some·in-Some-capacity w ↦ (c .match-slot .array-long, omega (arith, w .count-is), turn-two N k (c .loop-k .steps) _ (c .loop-k .count) _ (p .2) (omega arith) (of-link (w .in-Some .l)) (w .in-Some-capacity .field-0) (opened (c .args .net .now) k (w .in-Some .l) (w .in-Some .is)) (w .in-Some-capacity .is) (w .steps-is) (w .count-is))
-    | need.in-Some·in-rest-capacity w ↦ (c .match-slot .array-long, omega (arith, w .count-is), turn-one N k (c .loop-k .steps) _ (c .loop-k .count) _ (p .2) (omega arith) (of-link (w .in-Some .l)) (opened (c .args .net .now) k (w .in-Some .l) (w .in-Some .is)) (w .in-rest-capacity .is) (w .steps-is) (w .count-is))
-    | need.in-rest w ↦ (c .match-slot .array-long, omega (arith, w .count-is), turn-none N k (c .loop-k .steps) _ (c .loop-k .count) _ (p .2) (closed (c .args .net .now) k (w .in-rest .is)) (w .steps-is) (w .count-is))
+      | need.in-Some·in-Some-capacity w ↦ (c .match-slot .array-long, omega (arith, w .count-is), turn-two N k (c .loop-k .steps) _ (c .loop-k .count) _ (p .2) (omega arith) (of-link (w .in-Some .l)) (w .in-Some-capacity .field-0) (opened (c .args .net .now) k (w .in-Some .l) (w .in-Some .is)) (w .in-Some-capacity .is) (w .steps-is) (w .count-is))
+      | need.in-Some·in-rest-capacity w ↦ (c .match-slot .array-long, omega (arith, w .count-is), turn-one N k (c .loop-k .steps) _ (c .loop-k .count) _ (p .2) (omega arith) (of-link (w .in-Some .l)) (opened (c .args .net .now) k (w .in-Some .l) (w .in-Some .is)) (w .in-rest-capacity .is) (w .steps-is) (w .count-is))
+      | need.in-rest w ↦ (c .match-slot .array-long, omega (arith, w .count-is), turn-none N k (c .loop-k .steps) _ (c .loop-k .count) _ (p .2) (closed (c .args .net .now) k (w .in-rest .is)) (w .steps-is) (w .count-is))
     ]
 
 pub returns : need.returns
