@@ -16,15 +16,13 @@ use Rattle.rules.proofs.Tested.{open-below}
 use Rattle.nets.specs.declared.Step as code
 use Rattle.nets.specs.declared.Step.the-variants.{Forward, Back}
 use Rattle.nets.specs.Views.{of-step}
+use Rattle.timing.proofs.Opened.{none-some}
 use Rattle.timing.specs.Listing.{room-steps, link-steps, links-to, owns-to, steps-of}
 
 -- The list has the net's steps, all of them and no others.
 pub record Lists (N : Net) (ss : List Step) : Type 0 where
   pub only : (e : ℕ) → e < length ss → Has N (getD ss e (forward 0))
   pub all : (s : Step) → Has N s → (e : ℕ) × (e < length ss) × (getD ss e (forward 0) ≡ s)
-
-none-some : {X : Type 0} {x : X} → None ≡ Some x → ⊥
-none-some e = let z : _≡_ {A = ℕ} 0 1 = cc in omega arith
 
 -- One step more in the code's array
 

@@ -23,7 +23,7 @@ use Rattle.nets.specs.declared.Net.{Net}
 use Rattle.nets.specs.Views.{of-link, of-slot, of-net, Good}
 use Rattle.timing.specs.Edges.{Opens, Placed, Known, unit-of, grain-of, between, own-edge, pair-edge}
 
-none-some : {X : Type 0} {x : X} → None ≡ Some x → ⊥
+pub none-some : {X : Type 0} {x : X} → None ≡ Some x → ⊥
 none-some e = let z : _≡_ {A = ℕ} 0 1 = cc in omega arith
 
 slot-none : (o : Option Link) (l : rules.Link) → of-slot o ≡ Some l → o ≡ None → ⊥
