@@ -129,13 +129,6 @@ module _ (N : Net) (k : ℕ) (l : Link) (G : Good N) (o : Open (of-net N) k (of-
       ∙ sym (ap (λ z. by-link (or-else 0 z - l .terms .stock) (l .ends .to) (l .ends .from)) f)
       ∙ sym (ap (λ z. record { from = z .j; to = z .i; length = (pos (rate (of-net N) (z .i)) -ℤ pos (worth (of-net N) z (or-else 0 (z .c) - z .u)) -ℤ pos (grain (of-net N) z), pos (duration (of-net N) (z .j))) }) (link-is (of-net N) k (of-link l) o))
 
--- another link is open under the number, so it is the same one
-pub same-room : (N : rules.Net) (k : ℕ) (l : rules.Link) → Open N k l → (l′ : rules.Link) (c : ℕ) → Open N k l′ → l′ .c ≡ Some c → l .c ≡ None → ⊥
-same-room N k l o l′ c o′ f n =
-    let same : Some l ≡ Some l′ = sym o ∙ o′ in
-    let q : l ≡ l′ = cc in
-    none-some (sym n ∙ ap (λ z. z .c) q ∙ f)
-
 pub own-is : (N : Net) (i : ℕ) → i < stations (of-net N) → own-edge N i ≡ pair-edge (of-net N) (own i)
 own-is N i h =
     let r = rate-read N i (station N i h) in

@@ -69,12 +69,6 @@ module _ (N : Net) (G : Good N) where
   rate-some : (i : ℕ) → i < N .stations → 1 ≤ getD (N .rates) i 0
   rate-some i h = omega (arith, rate-read N i h, G .sound .recurring i (omega (arith, stations-are N G)))
 
-  pub rate-small : (i : ℕ) → i < N .stations → getD (N .rates) i 0 ≤ 10_000
-  rate-small i h = omega (arith, rate-read N i h, G .range .recurring i (omega (arith, stations-are N G)))
-
-  pub duration-small : (i : ℕ) → i < N .stations → getD (N .durations) i 0 ≤ 10_000
-  duration-small i h = omega (arith, duration-read N i h, G .range .lasting i (omega (arith, stations-are N G)))
-
   pub slower-found : (best i best′ : ℕ) → best < N .stations → Passed best i → getD (N .durations) best 0 * getD (N .rates) i 0 < getD (N .durations) i 0 * getD (N .rates) best 0 → best′ ≡ i → Passed best′ (i + 1)
   slower-found best i best′ hb p l e =
       subst (λ z. Passed z (i + 1)) (sym e) (λ j h.
