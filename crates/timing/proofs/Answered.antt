@@ -1,8 +1,8 @@
 -- What the search in ticks answers, told of the net. Assumes nothing.
 use mathlib.Core.Path.{_≡_, refl, ap, sym, subst, _∙_}
 use mathlib.Core.List.{List, [], _∷_, _++_, map}
-use mathlib.Core.Logic.{_⊎_, inl, inr}
-use Prim.Native.Nat.{ℕ, zero, suc, _+_, _-_, _*_, _≤_, _<_}
+use mathlib.Core.Logic.{inl, inr}
+use Prim.Native.Nat.{ℕ, zero, suc, _+_, _-_, _≤_, _<_}
 use native.Mathlib.Omega.{arith}
 use lib.ListN.{length, length-map, getD, take, drop, replicate}
 use lib.IntN.{ℤ, pos, natAbs}
@@ -18,7 +18,7 @@ use Rattle.rules.proofs.Sizes.{steps-sized}
 use Rattle.lengths.specs.declared.Ticks.{Ticks}
 use Rattle.lengths.specs.Models.{no-ticks, more-ticks, below-ticks}
 use Rattle.search.specs.declared.Round.{Round}
-use Rattle.search.specs.Terms.{begins, EdgeChain, LeastStarts, EdgeCircuit}
+use Rattle.search.specs.Terms.{LeastStarts, EdgeCircuit}
 use Rattle.search.specs.Answer.{Whole, around}
 use Rattle.search.proofs.Walking.{chain-in}
 use Rattle.nets.specs.declared.Net.{Net}

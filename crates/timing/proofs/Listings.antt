@@ -1,8 +1,8 @@
 -- The list of a net's steps has all of them and no others. Assumes nothing.
 use mathlib.Core.Path.{_≡_, refl, ap, sym, subst, _∙_}
 use mathlib.Core.List.{List, [], _∷_, _++_, map}
-use mathlib.Core.Logic.{_⊎_, inl, inr}
-use Prim.Native.Nat.{ℕ, zero, suc, _+_, _*_, _≤_, _<_}
+use mathlib.Core.Logic.{inl, inr}
+use Prim.Native.Nat.{ℕ, zero, suc, _+_, _≤_, _<_}
 use native.Mathlib.Omega.{arith}
 use native.Mathlib.Numerals.{add-one}
 use lib.ListN.{length, length-set, getD, set, take}
@@ -14,17 +14,15 @@ use Rattle.rules.specs.Net.{Link, Net, stations, Open}
 use Rattle.rules.specs.Steps.{Step, forward, back, own, Has}
 use Rattle.rules.proofs.Tested.{open-below}
 use Rattle.nets.specs.declared.Step as code
-use Rattle.nets.specs.declared.Step.the-variants.{Forward, Back, Own}
+use Rattle.nets.specs.declared.Step.the-variants.{Forward, Back}
 use Rattle.nets.specs.Views.{of-step}
+use Rattle.timing.proofs.Opened.{none-some}
 use Rattle.timing.specs.Listing.{room-steps, link-steps, links-to, owns-to, steps-of}
 
 -- The list has the net's steps, all of them and no others.
 pub record Lists (N : Net) (ss : List Step) : Type 0 where
   pub only : (e : ℕ) → e < length ss → Has N (getD ss e (forward 0))
   pub all : (s : Step) → Has N s → (e : ℕ) × (e < length ss) × (getD ss e (forward 0) ≡ s)
-
-none-some : {X : Type 0} {x : X} → None ≡ Some x → ⊥
-none-some e = let z : _≡_ {A = ℕ} 0 1 = cc in omega arith
 
 -- One step more in the code's array
 

@@ -1,11 +1,11 @@
 -- The program's net, read as the rules have it. Assumes nothing.
-use mathlib.Core.Path.{_≡_, refl, ap, sym, subst, _∙_}
+use mathlib.Core.Path.{_≡_, ap, sym, _∙_}
 use mathlib.Core.List.{List, map}
 use Prim.Native.Nat.{ℕ, _-_, _*_, _/_, _≤_, _<_}
 use native.Mathlib.Nat.{le-of-dvd, mul-le-mul, div-le-self}
 use native.Mathlib.Omega.{arith}
 use lib.ListN.{length, length-map, getD, take, List·getD-map}
-use lib.IntN.{ℤ, pos, negℤ, natAbs, _+ℤ_, _-ℤ_, _*ℤ_}
+use lib.IntN.{ℤ, pos, negℤ, _-ℤ_}
 use Rattle.std.proofs.shelf.Lists.{length-take, getD-take}
 use Rattle.std.specs.declared.option.Option.{Option}
 use Rattle.std.specs.declared.option.Option.the-variants.{Some, None}
@@ -14,7 +14,7 @@ use Rattle.handover.proofs.Gcd.{gcd-is}
 use Rattle.handover.proofs.Rates.{gcd-pos}
 use Rattle.rules.specs.Net as rules
 use Rattle.rules.specs.Net.{stations, duration, rate, Open}
-use Rattle.rules.specs.Steps.{Step, Has, forward, back, own, worth, grain, or-else, leads-from, time, shares, ticks}
+use Rattle.rules.specs.Steps.{forward, back, own, worth, grain, or-else}
 use Rattle.rules.proofs.Tested.{open-below}
 use Rattle.rules.proofs.Links.{link-is}
 use Rattle.search.specs.declared.Edge.{Edge}
@@ -23,7 +23,7 @@ use Rattle.nets.specs.declared.Net.{Net}
 use Rattle.nets.specs.Views.{of-link, of-slot, of-net, Good}
 use Rattle.timing.specs.Edges.{Opens, Placed, Known, unit-of, grain-of, between, own-edge, pair-edge}
 
-none-some : {X : Type 0} {x : X} → None ≡ Some x → ⊥
+pub none-some : {X : Type 0} {x : X} → None ≡ Some x → ⊥
 none-some e = let z : _≡_ {A = ℕ} 0 1 = cc in omega arith
 
 slot-none : (o : Option Link) (l : rules.Link) → of-slot o ≡ Some l → o ≡ None → ⊥
@@ -128,13 +128,6 @@ module _ (N : Net) (k : ℕ) (l : Link) (G : Good N) (o : Open (of-net N) k (of-
       between-is (c - l .terms .stock) (l .ends .to) (l .ends .from) to-in from-in
       ∙ sym (ap (λ z. by-link (or-else 0 z - l .terms .stock) (l .ends .to) (l .ends .from)) f)
       ∙ sym (ap (λ z. record { from = z .j; to = z .i; length = (pos (rate (of-net N) (z .i)) -ℤ pos (worth (of-net N) z (or-else 0 (z .c) - z .u)) -ℤ pos (grain (of-net N) z), pos (duration (of-net N) (z .j))) }) (link-is (of-net N) k (of-link l) o))
-
--- another link is open under the number, so it is the same one
-pub same-room : (N : rules.Net) (k : ℕ) (l : rules.Link) → Open N k l → (l′ : rules.Link) (c : ℕ) → Open N k l′ → l′ .c ≡ Some c → l .c ≡ None → ⊥
-same-room N k l o l′ c o′ f n =
-    let same : Some l ≡ Some l′ = sym o ∙ o′ in
-    let q : l ≡ l′ = cc in
-    none-some (sym n ∙ ap (λ z. z .c) q ∙ f)
 
 pub own-is : (N : Net) (i : ℕ) → i < stations (of-net N) → own-edge N i ≡ pair-edge (of-net N) (own i)
 own-is N i h =

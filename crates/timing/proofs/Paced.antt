@@ -1,7 +1,7 @@
 -- Paces of a good net, from the first one up to the fastest. Assumes nothing.
 use mathlib.Core.Path.{_≡_, refl, ap, sym, subst, _∙_}
-use mathlib.Core.List.{List, [], _∷_}
-use mathlib.Core.Logic.{_⊎_, inl, inr}
+use mathlib.Core.List.{[], _∷_}
+use mathlib.Core.Logic.{inl, inr}
 use Prim.Native.Nat.{ℕ, _+_, _-_, _*_, _/_, _≤_, _<_}
 use native.Mathlib.Nat.{le-of-mul-le-mul-left, mul-le-mul-left, div-le-self, add-zero}
 use native.Mathlib.Omega.{arith}
@@ -14,7 +14,7 @@ use Rattle.handover.proofs.Rates.{whole-left, whole-right, gcd-pos, parts-copri
 use Rattle.rules.specs.Net as rules
 use Rattle.rules.specs.Net.{at-pace, stations}
 use Rattle.rules.specs.Rules.{HasTimetable, NoPace}
-use Rattle.rules.specs.Steps.{Step, own, PairCircuit}
+use Rattle.rules.specs.Steps.{own, PairCircuit}
 use Rattle.rules.specs.Ranges.{InRange}
 use Rattle.rules.proofs.Paces.{sound-at, circuit-at, shares-of-at, time-of-at, pair-forbids}
 use Rattle.rules.proofs.Fastest.{rises, in-lowest}
@@ -68,12 +68,6 @@ module _ (N : Net) (G : Good N) where
 
   rate-some : (i : ℕ) → i < N .stations → 1 ≤ getD (N .rates) i 0
   rate-some i h = omega (arith, rate-read N i h, G .sound .recurring i (omega (arith, stations-are N G)))
-
-  pub rate-small : (i : ℕ) → i < N .stations → getD (N .rates) i 0 ≤ 10_000
-  rate-small i h = omega (arith, rate-read N i h, G .range .recurring i (omega (arith, stations-are N G)))
-
-  pub duration-small : (i : ℕ) → i < N .stations → getD (N .durations) i 0 ≤ 10_000
-  duration-small i h = omega (arith, duration-read N i h, G .range .lasting i (omega (arith, stations-are N G)))
 
   pub slower-found : (best i best′ : ℕ) → best < N .stations → Passed best i → getD (N .durations) best 0 * getD (N .rates) i 0 < getD (N .durations) i 0 * getD (N .rates) best 0 → best′ ≡ i → Passed best′ (i + 1)
   slower-found best i best′ hb p l e =

@@ -12,7 +12,7 @@ use borrow.Author.Differences.{le-out, lt-out, same-in}
 use Rattle.std.proofs.shelf.Tests.{false≢true, true≢false}
 use Rattle.rules.specs.Net.{Net, Sound}
 use Rattle.rules.specs.Rules.{SomePace}
-use Rattle.rules.specs.Steps.{Step, Has, leads-from, leads-to, shares, time, shares-of, time-of, PairAbove, PairCircuit, PairAtMost}
+use Rattle.rules.specs.Steps.{Step, leads-from, leads-to, shares, time, shares-of, time-of, PairAbove, PairCircuit, PairAtMost}
 use Rattle.rules.proofs.Existence.{pair-starts-allow}
 use Rattle.lengths.specs.Models.{no-pair, more-pair, below-pair}
 use Rattle.search.specs.declared.Edge.{Edge}

@@ -2,19 +2,19 @@
 use mathlib.Core.Path.{_≡_, refl, ap, sym, subst, _∙_}
 use mathlib.Core.Bool.{Bool, true, false, cond}
 use mathlib.Core.List.{List, [], _∷_, _++_, map}
-use mathlib.Core.Logic.{_⊎_, inl, inr}
-use Prim.Native.Nat.{ℕ, zero, suc, max, _+_, _*_, _≤_, _<_}
+use mathlib.Core.Logic.{inl, inr}
+use Prim.Native.Nat.{ℕ, zero, suc, _+_, _*_, _≤_, _<_}
 use native.Mathlib.Omega.{arith}
 use lib.ListN.{length, length-map, getD, take, List·getD-map}
 use lib.IntN.{ℤ, pos, negℤ, natAbs, _+ℤ_, +ℤ-idr}
-use lib.Signed.{ltZ, _<ℤ_}
+use lib.Signed.{ltZ}
 use borrow.Author.Differences.{up, down, abs-is, neg-is, sum-is, le-out, lt-out}
 use Rattle.std.proofs.shelf.Lists.{length-take-le, getD-take, take-map, map-more}
 use Rattle.handover.proofs.Positive.{right-pos}
 use Rattle.rules.specs.Net as rules
 use Rattle.rules.specs.Net.{Sound}
-use Rattle.rules.specs.Rules.{HasTimetable, Least, NoPace}
-use Rattle.rules.specs.Steps.{Step, forward, Has, Chain, Circuit as Closed, leads-to, shares, time, shares-of, time-of, ticks-of, PairAbove, PairCircuit}
+use Rattle.rules.specs.Rules.{HasTimetable, NoPace}
+use Rattle.rules.specs.Steps.{Step, forward, Has, Chain, leads-to, shares, time, shares-of, time-of, ticks-of}
 use Rattle.rules.specs.Ranges.{InRange, Sized}
 use Rattle.rules.proofs.Paces.{chain-pair, pair-forbids}
 use Rattle.rules.proofs.Fastest as fastest
@@ -23,13 +23,12 @@ use Rattle.rules.proofs.Turned.{shares-join, time-join}
 use Rattle.lengths.specs.Models.{more-pair, size-pair}
 use Rattle.search.specs.declared.Edge.{Edge}
 use Rattle.nets.specs.declared.Net.{Net}
-use Rattle.nets.specs.declared.CircuitStep.{CircuitStep}
 use Rattle.nets.specs.Views.{of-net, of-step, step-of, Good}
 use Rattle.timing.specs.declared.Starts.{Starts}
 use Rattle.timing.specs.declared.Circuit.{Circuit}
 use Rattle.timing.specs.Edges.{pair, pair-edge}
 use Rattle.timing.specs.Timing.{Timed, Refused, unused}
-use Rattle.timing.specs.declared.Raised.the-variants.{Enough, To, Never}
+use Rattle.timing.specs.declared.Raised.the-variants.{To, Never}
 use Rattle.timing.specs.Pacing.{Named, named-by, pair-of, Raises}
 use Rattle.timing.proofs.Orders.{less, no-less}
 

@@ -1,8 +1,8 @@
 -- What the search in ticks says of the net. Assumes nothing.
-use mathlib.Core.Path.{_≡_, refl, ap, sym, subst, _∙_}
-use mathlib.Core.Bool.{true, false}
+use mathlib.Core.Path.{_≡_, refl, ap, sym, _∙_}
+use mathlib.Core.Bool.{false}
 use mathlib.Core.List.{List, [], _∷_, map}
-use Prim.Native.Nat.{ℕ, _*_, _≤_, _<_}
+use Prim.Native.Nat.{ℕ, _<_}
 use native.Mathlib.Omega.{arith}
 use lib.ListN.{length, length-map, getD}
 use lib.IntN.{ℤ, pos, natAbs, _+ℤ_}
@@ -10,7 +10,7 @@ use lib.Signed.{ltZ, _<ℤ_}
 use borrow.Author.Differences.{abs-is, sum-is, le-out, same-in}
 use Rattle.rules.specs.Net.{Net, Sound, stations, whole}
 use Rattle.rules.specs.Rules.{Least}
-use Rattle.rules.specs.Steps.{Step, Has, Kept, Chain, leads-from, leads-to, ticks, ticks-of}
+use Rattle.rules.specs.Steps.{Step, Kept, Chain, leads-from, leads-to, ticks, ticks-of}
 use Rattle.rules.specs.Ranges.{InRange}
 use Rattle.rules.proofs.Existence.{from-inside, to-inside}
 use Rattle.rules.proofs.Sizes.{chains-sized}

@@ -1,8 +1,8 @@
 // One search over the steps of a net, for every kind of length that steps have.
 ghost use mathlib.Core.Path.{_≡_};
 ghost use mathlib.Core.List.{map};
-ghost use Prim.Native.Nat.{ℕ, _*_, _≤_, _<_};
-ghost use lib.ListN.{length, getD};
+ghost use Prim.Native.Nat.{_*_, _≤_};
+ghost use lib.ListN.{length};
 ghost use Rattle.rules.specs.Net as rules;
 ghost use Rattle.rules.specs.Ranges.{InRange};
 ghost use Rattle.rules.specs.Steps as model;

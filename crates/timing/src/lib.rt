@@ -71,8 +71,10 @@ pub fn at_pace(net: &SoundNet, pace: Pace) -> Option<SoundNet>
 pub fn raise(net: &SoundNet, pace: Pace) -> Option<Raised>
     ensures { λ r. ⌜ BySome r (PaceInRange pace → ⊥) (λ x. PaceInRange pace × Raises (of-net (now (net .entry) .net)) pace x) ⌝ }
 {
-    let at = at_pace(net, pace)?;
-    Some(raise_net(&at.net))
+    match at_pace(net, pace) {
+        Some(at) => Some(raise_net(&at.net)),
+        None => None,
+    }
 }
 
 // The fastest pace of the net, in lowest terms, where some pace has a timetable.

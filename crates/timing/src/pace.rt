@@ -2,9 +2,9 @@
 ghost use mathlib.Core.Path.{_≡_};
 ghost use mathlib.Core.Bool.{true, false};
 ghost use mathlib.Core.List.{map};
-ghost use Prim.Native.Nat.{ℕ, _+_, _*_, _/_, _≤_, _<_};
+ghost use Prim.Native.Nat.{_*_, _/_, _≤_, _<_};
 ghost use lib.ListN.{length, take};
-ghost use lib.IntN.{ℤ, pos, natAbs};
+ghost use lib.IntN.{natAbs};
 ghost use Rattle.std.specs.Options.{Cases as BySome};
 ghost use Rattle.handover.specs.Gcd.{gcd};
 ghost use Rattle.rules.specs.Rules.{SomePace, NoPace};

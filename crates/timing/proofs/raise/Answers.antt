@@ -7,10 +7,10 @@ use Rattle.timing.proofs.Paced.{raises-back}
 use Rattle.timing.proofs.raise.Needs as need
 
 pub raise-net-requires : need.raise-net-requires
-raise-net-requires c κs = record { good = good _ (c .in-Continue-at .at .good) }
+raise-net-requires c κs = record { good = good _ (c .in-Some .at .good) }
 
-pub returns : need.returns
-returns c =
-    let a = c .in-Continue-at .ensures tt in
+pub returns-in-Some : need.returns-in-Some
+returns-in-Some c =
+    let a = c .in-Some .ensures tt in
     let p = c .args .pace in
     (a .0, raises-back (c .args .net .now .net) (p .share) (p .unit) p (c .raise-net .result) (subst (λ (z : Net). Raises (of-net z) (z .pace) (c .raise-net .result)) (a .1) (c .raise-net .ensures)))

@@ -1,5 +1,4 @@
-use mathlib.Core.Path.{_≡_, sym, subst, _∙_}
-use native.Mathlib.Omega.{arith}
+use mathlib.Core.Path.{sym, subst}
 use Rattle.search.specs.Terms.{Searchable}
 use Rattle.search.specs.Answer.{Answered}
 use Rattle.nets.specs.Views.{of-net}

@@ -1,4 +1,4 @@
-use mathlib.Core.Path.{_≡_, sym, subst, _∙_}
+use mathlib.Core.Path.{_∙_}
 use native.Mathlib.Omega.{arith}
 use Rattle.nets.specs.Views.{of-net}
 use Rattle.timing.proofs.Fronts.{front-more, front-all}

@@ -1,4 +1,4 @@
-use mathlib.Core.Path.{_≡_, refl, sym, subst, ap}
+use mathlib.Core.Path.{refl, sym, subst, ap}
 use Rattle.nets.specs.declared.Net.{Net}
 use Rattle.nets.specs.Views.{of-net, Good}
 use Rattle.timing.specs.Pacing.{with-pace, Raises, FastestPace}

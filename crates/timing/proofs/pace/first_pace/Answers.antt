@@ -1,5 +1,4 @@
 use native.Mathlib.Omega.{arith}
-use Rattle.timing.proofs.Opened.{stations-are}
 use Rattle.timing.proofs.Paced.{slower-found, none-slower, first-is}
 use Rattle.timing.proofs.pace.first_pace.Needs as need
 

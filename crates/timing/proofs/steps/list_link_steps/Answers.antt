@@ -1,10 +1,6 @@
-use mathlib.Core.Path.{_≡_, refl, ap, sym, _∙_}
-use Prim.Native.Nat.{_<_, _≤_, _+_}
+use mathlib.Core.Path.{_≡_, ap, _∙_}
 use native.Mathlib.Omega.{arith}
-use borrow.Author.Needs.{needs}
-use lib.ListN.{length, length-map, length-set, take, set}
-use Rattle.nets.specs.Views.{of-step}
-use Rattle.nets.specs.declared.Step.the-variants.{Forward, Back, Own}
+use lib.ListN.{length, length-map, take}
 use Rattle.nets.specs.Views.{of-net, of-link, of-slot}
 use Rattle.timing.specs.Listing.{links-to}
 use Rattle.timing.proofs.Opened.{opened, closed}

@@ -1,4 +1,4 @@
-use mathlib.Core.Path.{_≡_, ap, sym, subst, _∙_}
+use mathlib.Core.Path.{ap, sym, subst, _∙_}
 use Rattle.rules.specs.Steps.{Has}
 use Rattle.nets.specs.Views.{of-net, of-step}
 use Rattle.timing.specs.Edges.{pair-edge}
