@@ -1,19 +1,19 @@
 -- What holds of the levels. Assumes nothing.
-use mathlib.Core.Path.{_≡_, refl, sym, ap, _∙_, subst}
-use mathlib.Core.Bool.{Bool, true, false}
-use mathlib.Core.List.{List, [], _∷_, map, _++_}
-use mathlib.Core.Logic.{⊎-elim, _≢_}
+use mathlib.Core.Path.{_≡_, refl, sym, _∙_, subst}
+use mathlib.Core.Bool.{Bool, false}
+use mathlib.Core.List.{List, [], _∷_, _++_}
+use mathlib.Core.Logic.{_≢_}
 use Prim.Native.Nat.{ℕ, _<_, _≤_, _+_, _*_}
 use native.Mathlib.Omega.{arith}
 use native.Mathlib.Nat.{mul-le-mul-right}
-use lib.ListN.{length, getD, set, replicate}
-use Rattle.std.proofs.shelf.Lists.{length-set, getD-set-same, getD-set-other, length-push}
+use lib.ListN.{length, getD, set}
+use Rattle.std.proofs.shelf.Lists.{getD-set-same, getD-set-other, length-push}
 use Rattle.std.specs.declared.option.Option.{Option}
 use Rattle.std.specs.declared.option.Option.the-variants.{Some, None}
 use Rattle.lengths.specs.Laws.{JoinLaws, OrderLaws}
 use Rattle.search.specs.declared.Edge.{Edge}
 use Rattle.search.specs.Terms.{begins, ends, lasts, Within, EdgeChain, total, LeastStarts}
-use Rattle.search.specs.Levels.{Came, Top, Level, History, first, later, Marked}
+use Rattle.search.specs.Levels.{Came, Level, History, first, later, Marked}
 use Rattle.search.proofs.Order.{right, le-le}
 use Rattle.search.proofs.Chains.{chain-join, total-join}
 use Rattle.search.proofs.Bounds.{least-along}

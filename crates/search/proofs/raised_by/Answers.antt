@@ -1,9 +1,9 @@
-use Prim.Native.Nat.{ℕ, _<_, _≤_, _+_}
-use mathlib.Core.Path.{_≡_, refl, sym, ap, _∙_}
+use Prim.Native.Nat.{_<_}
+use mathlib.Core.Path.{refl}
 use native.Mathlib.Omega.{arith}
 use borrow.Author.Needs.{needs}
-use lib.ListN.{length, getD}
-use Rattle.search.proofs.EdgeReads.{begins-is, ends-is, lasts-is, from-in, to-in}
+use lib.ListN.{length}
+use Rattle.search.proofs.EdgeReads.{begins-is, lasts-is, from-in, to-in}
 use Rattle.std.proofs.shelf.Lists.{getD-read}
 use Rattle.search.proofs.Stepping.{turn-keep, turn-raise}
 use Rattle.search.proofs.raised_by.Needs as need
