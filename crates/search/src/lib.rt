@@ -8,7 +8,7 @@ ghost use Rattle.std.specs.Options.{Cases as BySome};
 ghost use Rattle.std.specs.declared.option.Option.{Option};
 ghost use Rattle.std.specs.declared.option.Option.the-variants.{None};
 ghost use Rattle.search.specs.Terms.{Within, begins, ends, lasts, Searchable, EdgeCircuit};
-ghost use Rattle.search.specs.Levels.{EdgeFits, Joinable, Level, History, Levelled, Marked, LowestAt, Rising};
+ghost use Rattle.search.specs.Levels.{EdgeFits, Joinable, Raised, Level, History, Levelled, Marked, LowestAt, Rising};
 ghost use Rattle.search.specs.Answer.{Whole, around, Answered, Askable};
 use lengths::Joining;
 use lengths::OrderedLength;
@@ -30,6 +30,18 @@ fn same_level<L: OrderedLength>(before: &[L], best: &mut [L], via: &mut [Option<
     *via = [None; 64];
 }
 
+// Raises the length at `to`, where the one that is reached is greater, and says whether it was so.
+fn raise<L: OrderedLength>(best: &mut [L], to: usize, reached: L) -> bool
+    requires { ⌜ to < length (now best) ⌝ }
+    ensures { λ r. ⌜ Raised (L·Joining .neutral) below (now (best .entry)) to reached (now (best .exit)) r ⌝ }
+{
+    if best[to].is_below(reached) {
+        best[to] = reached;
+        return true;
+    }
+    false
+}
+
 // The level with one edge more looked at: its end is raised where the edge leads to a greater length. It answers a node that was raised.
 fn raised_by<L: OrderedLength>(
     edges: &[Edge<L>],
@@ -48,8 +60,7 @@ fn raised_by<L: OrderedLength>(
 {
     let edge = edges[i];
     let reached = before[edge.from].join(edge.length);
-    if best[edge.to].is_below(reached) {
-        best[edge.to] = reached;
+    if raise(best, edge.to, reached) {
         via[edge.to] = Some(i);
         return Some(edge.to);
     }
