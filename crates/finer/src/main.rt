@@ -92,10 +92,14 @@ fn ticks(from: usize, to: usize, ticks: i64) -> Edge<Ticks> {
 
 // An edge of one step.
 fn step(from: usize, to: usize, ticks: i64) -> Edge<Counted<Ticks>> {
-    edge(from, to, Counted {
-        length: Ticks { ticks },
-        steps: 1,
-    })
+    edge(
+        from,
+        to,
+        Counted {
+            length: Ticks { ticks },
+            steps: 1,
+        },
+    )
 }
 
 fn write_circuit(rt: LibcRuntime, round: &Round) -> io::Result<()>
@@ -169,12 +173,53 @@ fn write_steps(rt: LibcRuntime, edges: &[Edge<Counted<Ticks>>]) -> io::Result<()
 // - A circuit of 0 ticks keeps its starts by steps as well: 0 ticks by two steps are below 0 ticks by none.
 // - An edge to node 4 of four nodes cannot be asked.
 fn main(rt: LibcRuntime) -> io::Result<()> {
-    write_ticks(rt, &[ticks(0, 1, 3), ticks(1, 2, 4), ticks(0, 2, 7), ticks(2, 0, -9), ticks(2, 3, -2)])?;
-    write_ticks(rt, &[ticks(2, 0, -6), ticks(0, 1, 3), ticks(1, 2, 4), ticks(2, 3, -2)])?;
-    write_pairs(rt, &[edge(0, 1, (1, -5)), edge(1, 2, (-1, 9)), edge(0, 2, (0, 3)), edge(2, 0, (0, -4)), edge(2, 3, (-1, 4))])?;
-    write_pairs(rt, &[edge(2, 0, (0, -6)), edge(0, 1, (1, 3)), edge(1, 2, (-1, 4))])?;
-    write_steps(rt, &[step(0, 1, 3), step(1, 2, 4), step(0, 2, 7), step(2, 0, -9), step(2, 3, -2)])?;
-    write_steps(rt, &[step(2, 0, -6), step(0, 1, 3), step(1, 2, 4), step(2, 3, -2)])?;
+    write_ticks(
+        rt,
+        &[
+            ticks(0, 1, 3),
+            ticks(1, 2, 4),
+            ticks(0, 2, 7),
+            ticks(2, 0, -9),
+            ticks(2, 3, -2),
+        ],
+    )?;
+    write_ticks(
+        rt,
+        &[
+            ticks(2, 0, -6),
+            ticks(0, 1, 3),
+            ticks(1, 2, 4),
+            ticks(2, 3, -2),
+        ],
+    )?;
+    write_pairs(
+        rt,
+        &[
+            edge(0, 1, (1, -5)),
+            edge(1, 2, (-1, 9)),
+            edge(0, 2, (0, 3)),
+            edge(2, 0, (0, -4)),
+            edge(2, 3, (-1, 4)),
+        ],
+    )?;
+    write_pairs(
+        rt,
+        &[edge(2, 0, (0, -6)), edge(0, 1, (1, 3)), edge(1, 2, (-1, 4))],
+    )?;
+    write_steps(
+        rt,
+        &[
+            step(0, 1, 3),
+            step(1, 2, 4),
+            step(0, 2, 7),
+            step(2, 0, -9),
+            step(2, 3, -2),
+        ],
+    )?;
+    write_steps(
+        rt,
+        &[step(2, 0, -6), step(0, 1, 3), step(1, 2, 4), step(2, 3, -2)],
+    )?;
     write_steps(rt, &[step(0, 1, 3), step(1, 0, -3)])?;
     write_ticks(rt, &[ticks(0, 4, 1)])
 }

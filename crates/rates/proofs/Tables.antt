@@ -52,15 +52,15 @@ module _ (M : Net) (k : ℕ) where
 module _ (M : Net) (P : rules.Link → Type 0) (k : ℕ) (before : (i : ℕ) (t : rules.Link) → i < k → Open (of-net M) i t → P t) where
   pub scan-link : (l : Link) → getD (M .links) k None ≡ Some l → P (of-link l) → (i : ℕ) (t : rules.Link) → i < k + 1 → Open (of-net M) i t → P t
   scan-link l e p i t h o = elim (cases-lt i k) [
-      | inl b ↦ before i t b o
-      | inr b ↦ (let q : i ≡ k = omega arith in subst P (open-is M k l t e (subst (λ j. Open (of-net M) j t) q o)) p)
-    ]
+    | inl b ↦ before i t b o
+    | inr b ↦ (let q : i ≡ k = omega arith in subst P (open-is M k l t e (subst (λ j. Open (of-net M) j t) q o)) p)
+  ]
 
   pub scan-none : getD (M .links) k None ≡ None → (i : ℕ) (t : rules.Link) → i < k + 1 → Open (of-net M) i t → P t
   scan-none e i t h o = elim (cases-lt i k) [
-      | inl b ↦ before i t b o
-      | inr b ↦ (let q : i ≡ k = omega arith in absurd (open-not M k t e (subst (λ j. Open (of-net M) j t) q o)))
-    ]
+    | inl b ↦ before i t b o
+    | inr b ↦ (let q : i ≡ k = omega arith in absurd (open-not M k t e (subst (λ j. Open (of-net M) j t) q o)))
+  ]
 
   pub scan-all : Whole M → 128 ≤ k → (i : ℕ) (t : rules.Link) → Open (of-net M) i t → P t
   scan-all W h i t o = before i t (omega (arith, open-below (of-net M) i t o, length-map (M .links) of-slot, W .numbered)) o
@@ -75,17 +75,17 @@ checked-with N Z C = record {
   share = C .share;
   unit = C .unit;
   linked = λ k l o. (
-    let K = C .linked k l o in
-    record {
-      from-station = K .from-station;
-      to-station = K .to-station;
-      gives = K .gives;
-      arrive = K .arrive;
-      takes = K .takes;
-      leave = K .leave;
-      stock = K .stock;
-      room = K .room;
-    });
+      let K = C .linked k l o in
+      record {
+        from-station = K .from-station;
+        to-station = K .to-station;
+        gives = K .gives;
+        arrive = K .arrive;
+        takes = K .takes;
+        leave = K .leave;
+        stock = K .stock;
+        room = K .room;
+      });
 }
 
 -- the net whose rates are the front of z

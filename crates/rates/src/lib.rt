@@ -171,11 +171,7 @@ fn numbers(checked: &CheckedNet) -> Option<[u16; 64]>
             return None;
         }
     }
-    if balanced(checked, &z) {
-        Some(z)
-    } else {
-        None
-    }
+    if balanced(checked, &z) { Some(z) } else { None }
 }
 
 // The net with the numbers as its rates.

@@ -16,15 +16,15 @@ use Rattle.search.specs.Levels.{turned}
 module _ {L : Type 0} (es : List (Edge L)) (c : List ℕ) (first t first′ : ℕ) (low : (s : ℕ) → s < t → begins es (getD c first 0) ≤ begins es (getD c s 0)) where
   pub lower : begins es (getD c t 0) < begins es (getD c first 0) → first′ ≡ t → (s : ℕ) → s < t + 1 → begins es (getD c first′ 0) ≤ begins es (getD c s 0)
   lower h e s k = elim (cases-eq s t) [
-      | inl q ↦ rw (e, q) (omega arith)
-      | inr q ↦ rw e (let ne : s ≢ t = q in let l = low s (omega arith) in omega arith)
-    ]
+    | inl q ↦ rw (e, q) (omega arith)
+    | inr q ↦ rw e (let ne : s ≢ t = q in let l = low s (omega arith) in omega arith)
+  ]
 
   pub no-lower : begins es (getD c first 0) ≤ begins es (getD c t 0) → first′ ≡ first → (s : ℕ) → s < t + 1 → begins es (getD c first′ 0) ≤ begins es (getD c s 0)
   no-lower h e s k = elim (cases-eq s t) [
-      | inl q ↦ rw (e, q) h
-      | inr q ↦ rw e (let ne : s ≢ t = q in low s (omega arith))
-    ]
+    | inl q ↦ rw (e, q) h
+    | inr q ↦ rw e (let ne : s ≢ t = q in low s (omega arith))
+  ]
 
 pub front-turned : (n p : ℕ) (chain whole front : List ℕ) → length chain ≡ n → n ≤ length whole → front ≡ turned p chain →
     (length (front ++ postOf 0 (n - 0) whole) ≡ length whole) × (take n (front ++ postOf 0 (n - 0) whole) ≡ turned p chain)

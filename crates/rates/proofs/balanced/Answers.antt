@@ -21,8 +21,8 @@ returns-then-not-balances c = (
 pub loop-k-again : need.loop-k-again
 loop-k-again c =
     elim (c .match-slot .came) [
-      in-Some·else-not-balances w ↦ scan-link (c .args .checked .now .net) (λ t. Balance t (c .args .z .now)) (c .loop-k .k) (c .loop-k .inv) (w .in-Some .link) (w .in-Some .is) (w .balances .ensures .0 (w .if-not-balances .left))
-    | in-rest w ↦ scan-none (c .args .checked .now .net) (λ t. Balance t (c .args .z .now)) (c .loop-k .k) (c .loop-k .inv) (w .in-rest .is)
+      | in-Some·else-not-balances w ↦ scan-link (c .args .checked .now .net) (λ t. Balance t (c .args .z .now)) (c .loop-k .k) (c .loop-k .inv) (w .in-Some .link) (w .in-Some .is) (w .balances .ensures .0 (w .if-not-balances .left))
+      | in-rest w ↦ scan-none (c .args .checked .now .net) (λ t. Balance t (c .args .z .now)) (c .loop-k .k) (c .loop-k .inv) (w .in-rest .is)
     ]
 
 pub returns : need.returns

@@ -18,8 +18,8 @@ returns-in-Some-lead-on c =
 pub loop-k-again : need.loop-k-again
 loop-k-again c =
     elim (c .match-slot .came) [
-      in-Some·in-rest-lead-on w ↦ scan-link (c .args .checked .now .net) (λ t. OnwardBy t (c .args .z .now) None) (c .loop-k .k) (c .loop-k .inv) (w .in-Some .link) (w .in-Some .is) (w .in-rest-lead-on .ensures tt)
-    | in-rest w ↦ scan-none (c .args .checked .now .net) (λ t. OnwardBy t (c .args .z .now) None) (c .loop-k .k) (c .loop-k .inv) (w .in-rest .is)
+      | in-Some·in-rest-lead-on w ↦ scan-link (c .args .checked .now .net) (λ t. OnwardBy t (c .args .z .now) None) (c .loop-k .k) (c .loop-k .inv) (w .in-Some .link) (w .in-Some .is) (w .in-rest-lead-on .ensures tt)
+      | in-rest w ↦ scan-none (c .args .checked .now .net) (λ t. OnwardBy t (c .args .z .now) None) (c .loop-k .k) (c .loop-k .inv) (w .in-rest .is)
     ]
 
 pub returns : need.returns

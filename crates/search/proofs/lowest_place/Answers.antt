@@ -13,6 +13,6 @@ loop-t-again g c =
     let here = begins-read es (getD chain (c .loop-t .t) 0) (c .index-edges-chain .result) (c .pre .known (c .loop-t .t) t) in
     let there = begins-read es (getD chain (c .loop-t .first) 0) (c .index-edges-chain-in-loop-t .result) (c .pre .known (c .loop-t .first) (p .0)) in
     elim (c .if-edges-chain .came) [
-      need.then-edges-chain w ↦ (omega (arith, w .first-is), lower es chain (c .loop-t .first) (c .loop-t .t) _ (p .1) (omega (arith, w .if-edges-chain .taken)) (w .first-is))
-    | need.else-edges-chain w ↦ (omega (arith, w .first-is, p .0), no-lower es chain (c .loop-t .first) (c .loop-t .t) _ (p .1) (omega (arith, w .if-edges-chain .left)) (w .first-is))
+      | need.then-edges-chain w ↦ (omega (arith, w .first-is), lower es chain (c .loop-t .first) (c .loop-t .t) _ (p .1) (omega (arith, w .if-edges-chain .taken)) (w .first-is))
+      | need.else-edges-chain w ↦ (omega (arith, w .first-is, p .0), no-lower es chain (c .loop-t .first) (c .loop-t .t) _ (p .1) (omega (arith, w .if-edges-chain .left)) (w .first-is))
     ]
