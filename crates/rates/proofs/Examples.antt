@@ -1,17 +1,16 @@
 -- The worked examples. Assumes nothing.
-use mathlib.Core.Path.{_≡_, refl, ap, sym, subst, _∙_}
+use mathlib.Core.Path.{_≡_, refl, subst}
 use mathlib.Core.Logic.{inl, inr}
 use mathlib.Core.List.{List, [], _∷_, map}
-use Prim.Native.Nat.{ℕ, zero, suc, _*_, _≤_, _<_, _∣_}
+use Prim.Native.Nat.{ℕ, zero, suc, _≤_, _<_, _∣_}
 use native.Mathlib.Nat.{not-suc-le-zero, dvd-zero, dvd-one}
 use native.Mathlib.Omega.{arith}
 use lib.Dec.{lit≤, lit<}
 use lib.ListN.{length, getD}
-use Rattle.std.specs.declared.option.Option.{Option}
 use Rattle.std.specs.declared.option.Option.the-variants.{Some, None}
 use Rattle.handover.specs.Gcd.{gcd}
 use Rattle.handover.proofs.Gcd.{gcd-is}
-use Rattle.rules.specs.Net.{Link, Net, stations, Open}
+use Rattle.rules.specs.Net.{Link, stations}
 use Rattle.rules.specs.Rates.{stay, on, Joined, CutOff, Rated, with-rates, NoRates}
 use Rattle.rates.specs.Reaching.{number, Balance}
 use Rattle.rates.specs.Theorems.{tie, net, two, row, ring, assembly, Worked}

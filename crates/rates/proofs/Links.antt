@@ -1,18 +1,17 @@
 -- Links as they are followed, and what they lead to. Assumes nothing.
-use mathlib.Core.Path.{_≡_, refl, sym, ap, subst}
+use mathlib.Core.Path.{_≡_, sym, ap, subst}
 use mathlib.Core.Logic.{_⊎_, inl, inr}
 use mathlib.Core.List.{List}
 use Prim.Native.Nat.{ℕ, _*_, _<_, _≤_}
 use native.Mathlib.Omega.{arith}
 use lib.ListN.{length}
 use Rattle.std.specs.declared.option.Option.the-variants.{Some, None}
-use Rattle.std.proofs.shelf.Tests.{cases-eq, cases-order}
+use Rattle.std.proofs.shelf.Tests.{cases-eq}
 use Rattle.rules.specs.Net.{Link, Net, stations, Open}
 use Rattle.rules.specs.Ranges.{Checked}
-use Rattle.rules.specs.Rates.{Joins, Leads, stay, on, CutOff}
+use Rattle.rules.specs.Rates.{Joins, Leads, stay, on}
 use Rattle.rates.specs.declared.Lead.{Lead}
-use Rattle.rates.specs.Reaching.{number, Balances, along, against, Follows, Terms, Alike, Onward, Led}
-use Rattle.rates.specs.Theorems.{CutOffOne}
+use Rattle.rates.specs.Reaching.{number, Balances, Follows, Terms, Alike, Onward, Led}
 
 -- an open link, one way or the other
 module _ (N : Net) (k : ℕ) (l : Link) (o : Open N k l) (s : Lead) where

@@ -1,6 +1,6 @@
 -- A net's tables and the rules' words. Assumes nothing.
 use mathlib.Core.Path.{_≡_, refl, sym, ap, subst, _∙_}
-use mathlib.Core.List.{List, map, _++_}
+use mathlib.Core.List.{List, _++_}
 use mathlib.Core.Logic.{inl, inr}
 use Prim.Native.Nat.{ℕ, _+_, _-_, _<_, _≤_}
 use native.Mathlib.Omega.{arith}
@@ -12,7 +12,7 @@ use Rattle.std.proofs.shelf.Tests.{cases-lt}
 use Rattle.std.proofs.shelf.Lists.{length-take-le, length-append, length-drop, take-at, drop-at}
 use Rattle.rules.specs.Net as rules
 use Rattle.rules.specs.Net.{stations, Open}
-use Rattle.rules.specs.Ranges.{Checked, CheckedLink}
+use Rattle.rules.specs.Ranges.{Checked}
 use Rattle.rules.specs.Rates.{Rated, with-rates}
 use Rattle.rules.proofs.Soundness.{sound, in-range}
 use Rattle.rules.proofs.Tested.{open-below}

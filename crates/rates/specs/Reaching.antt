@@ -105,4 +105,4 @@ pub record Part (N : Net) (z : List ℕ) : Type 0 where
 -- Numbers whose front are the net's rates; none only where no numbers are.
 abbrev pub Numbers : Net → Option (List ℕ) → Type 0
 Numbers N None = NoRates N
-Numbers N (Some z) = (length z ≡ 64) × Rated (with-rates N (take (stations N) z))
+Numbers N (Some z) = Rated (with-rates N (take (stations N) z))

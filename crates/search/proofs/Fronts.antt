@@ -1,11 +1,11 @@
 -- How the lowest place is kept, and what is left of an array whose front was turned. Assumes nothing.
-use mathlib.Core.Path.{_≡_, refl, sym, ap, _∙_, subst}
+use mathlib.Core.Path.{_≡_, ap, _∙_}
 use mathlib.Core.List.{List, _++_}
 use mathlib.Core.Logic.{_≢_, inl, inr}
 use Prim.Native.Nat.{ℕ, _<_, _≤_, _+_, _-_}
 use native.Mathlib.Omega.{arith}
 use lib.ListN.{length, getD, take, drop}
-use borrow.Rule.Slice.PartMut.{midOf, postOf}
+use borrow.Rule.Slice.PartMut.{postOf}
 use Rattle.std.proofs.shelf.Tests.{cases-eq}
 use Rattle.std.proofs.shelf.Lists.{length-append, length-take, length-drop, take-at}
 use Rattle.search.specs.declared.Edge.{Edge}

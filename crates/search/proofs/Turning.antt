@@ -3,7 +3,7 @@ use mathlib.Core.Path.{_≡_, refl, sym, ap, _∙_, subst}
 use mathlib.Core.Bool.{Bool, true}
 use mathlib.Core.List.{List, [], _∷_, _++_, map}
 use mathlib.Core.Logic.{inl, inr}
-use Prim.Native.Nat.{ℕ, zero, suc, _<_, _≤_, _+_, _-_}
+use Prim.Native.Nat.{ℕ, _<_, _≤_, _+_, _-_}
 use native.Mathlib.Omega.{arith}
 use lib.ListN.{length, getD, take, drop}
 use Rattle.std.proofs.shelf.Tests.{cases-lt, both-ways}
@@ -12,7 +12,7 @@ use Rattle.lengths.specs.Laws.{JoinLaws, OrderLaws}
 use Rattle.handover.specs.Once.{Once}
 use Rattle.handover.proofs.Once.{over, is, once-count, count-once}
 use Rattle.search.specs.declared.Edge.{Edge}
-use Rattle.search.specs.Terms.{begins, ends, lasts, EdgeChain, total, EdgeCircuit}
+use Rattle.search.specs.Terms.{begins, ends, EdgeChain, total, EdgeCircuit}
 use Rattle.search.specs.Levels.{Rising, LowestAt, turned}
 use Rattle.search.proofs.Chains.{chain-join, chain-cut, chain-first, total-join}
 use Rattle.search.proofs.Bounds.{shut-along}

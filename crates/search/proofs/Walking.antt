@@ -2,7 +2,6 @@
 use mathlib.Core.Path.{_≡_, refl, sym, ap, _∙_, subst}
 use mathlib.Core.Bool.{Bool, true, false}
 use mathlib.Core.List.{List, [], _∷_, map}
-use mathlib.Core.Logic.{⊎-elim, _≢_}
 use Prim.Native.Nat.{ℕ, zero, suc, _<_, _≤_, _+_, _-_}
 use native.Mathlib.Omega.{arith}
 use lib.ListN.{length, getD, set, take, drop}
@@ -14,7 +13,7 @@ use Rattle.lengths.specs.Laws.{JoinLaws, OrderLaws}
 use Rattle.search.specs.declared.Edge.{Edge}
 use Rattle.search.specs.Terms.{begins, ends, lasts, Within, EdgeChain, total}
 use Rattle.handover.specs.Once.{Absent, Once}
-use Rattle.search.specs.Levels.{Came, Top, Level, History, first, later, Marked, Rising}
+use Rattle.search.specs.Levels.{Came, Level, History, first, later, Marked, Rising}
 use Rattle.search.proofs.Order.{right, le-lt}
 use Rattle.search.proofs.Stepping.{risen}
 use Rattle.search.proofs.Histories.{came-by}

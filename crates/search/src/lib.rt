@@ -3,16 +3,17 @@ ghost use mathlib.Core.Path.{_≡_};
 ghost use mathlib.Core.Bool.{true, false};
 ghost use mathlib.Core.List.{List};
 ghost use Prim.Native.Nat.{ℕ, _+_, _-_, _<_, _≤_};
-ghost use lib.ListN.{length, getD, take, drop};
+ghost use lib.ListN.{length, getD, take, drop, replicate};
 ghost use Rattle.std.specs.Options.{Cases as BySome};
 ghost use Rattle.std.specs.declared.option.Option.{Option};
 ghost use Rattle.std.specs.declared.option.Option.the-variants.{None};
 ghost use Rattle.search.specs.Terms.{Within, begins, ends, lasts, Searchable, EdgeCircuit};
-ghost use Rattle.search.specs.Levels.{EdgeFits, Joinable, Level, History, Levelled, Marked, LowestAt, Rising};
-ghost use Rattle.search.specs.Answer.{Whole, around, Answered, Askable};
+ghost use Rattle.search.specs.Levels.{EdgeFits, Joinable, Raised, Level, History, Levelled, Marked, LowestAt, Rising};
+ghost use Rattle.search.specs.Answer.{Whole, around, Answered, Askable, NeutralPast, LeftNeutral};
 use lengths::Joining;
 use lengths::OrderedLength;
 
+// The node `to` starts at least the length after the node `from`.
 #[derive(Clone, Copy)]
 pub struct Edge<L> {
     pub from: usize,
@@ -28,6 +29,18 @@ fn same_level<L: OrderedLength>(before: &[L], best: &mut [L], via: &mut [Option<
 {
     best.copy_from_slice(before);
     *via = [None; 64];
+}
+
+// Raises the length at `to`, where the one that is reached is greater, and says whether it was so.
+fn raise<L: OrderedLength>(best: &mut [L], to: usize, reached: L) -> bool
+    requires { ⌜ to < length (now best) ⌝ }
+    ensures { λ r. ⌜ Raised (L·Joining .neutral) below (now (best .entry)) to reached (now (best .exit)) r ⌝ }
+{
+    if best[to].is_below(reached) {
+        best[to] = reached;
+        return true;
+    }
+    false
 }
 
 // The level with one edge more looked at: its end is raised where the edge leads to a greater length. It answers a node that was raised.
@@ -48,8 +61,7 @@ fn raised_by<L: OrderedLength>(
 {
     let edge = edges[i];
     let reached = before[edge.from].join(edge.length);
-    if best[edge.to].is_below(reached) {
-        best[edge.to] = reached;
+    if raise(best, edge.to, reached) {
         via[edge.to] = Some(i);
         return Some(edge.to);
     }
@@ -84,6 +96,7 @@ pub struct Round {
     pub count: usize,
 }
 
+// The least starts were written, or this circuit is above neutral.
 #[derive(Clone, Copy)]
 pub enum Outcome {
     Starts,
@@ -190,10 +203,11 @@ fn walked_back<L: OrderedLength>(
     unreachable()
 }
 
-// The first level: neutral everywhere.
-fn first_level<L: OrderedLength>(starts: &mut [L])
+// Neutral everywhere, as the first level is.
+fn clear<L: OrderedLength>(starts: &mut [L])
     requires { ⌜ length (now starts) ≡ 64 ⌝ }
-    ensures { λ _. ⌜ ((es : List (Edge L)) (vias : List (List (Option ℕ))) → History (L·Joining .neutral) (L·Joining .joined) below es vias 0 (now (starts .exit))) ⌝ }
+    ensures level { λ _. ⌜ ((es : List (Edge L)) (vias : List (List (Option ℕ))) → History (L·Joining .neutral) (L·Joining .joined) below es vias 0 (now (starts .exit))) ⌝ }
+    ensures neutral { λ _. ⌜ now (starts .exit) ≡ replicate 64 (L·Joining .neutral) ⌝ }
 {
     let none = L::none();
     for s in starts.iter_mut() {
@@ -211,9 +225,10 @@ fn search_levels<L: OrderedLength>(
     requires asked { ⌜ Searchable (L·Joining .neutral) (L·Joining .size) (L·Joining .largest) nodes (now edges) ⌝ }
     requires long { ⌜ length (now starts) ≡ 64 ⌝ }
     requires wide { ⌜ length (now spare) ≡ 64 ⌝ }
-    ensures { λ r. ⌜ Answered (L·Joining .neutral) (L·Joining .joined) below nodes (now (edges .entry)) (now (starts .exit)) r ⌝ }
+    ensures answered { λ r. ⌜ Answered (L·Joining .neutral) (L·Joining .joined) below nodes (now (edges .entry)) (now (starts .exit)) r ⌝ }
+    ensures past { λ _. ⌜ NeutralPast (L·Joining .neutral) nodes (now (starts .exit)) ⌝ }
 {
-    first_level(starts);
+    clear(starts);
     let mut via = [None; 64];
     let mut vias = [[None; 64]; 64];
     let mut last = 0;
@@ -257,7 +272,7 @@ fn searchable<L: OrderedLength>(nodes: usize, edges: &[Edge<L>]) -> bool
 
 // The least starts of all the nodes, at the front of `starts`, or a circuit above neutral.
 // There is no answer, and nothing is written, where the edges cannot be searched or `starts` or `spare` does not have 64 places.
-// What the two hold at first does not matter, nor what `spare` holds afterwards.
+// Otherwise it does not matter what the two held, and all places but those of the least starts are left neutral.
 pub fn least_starts<L: OrderedLength>(
     nodes: usize,
     edges: &[Edge<L>],
@@ -266,11 +281,15 @@ pub fn least_starts<L: OrderedLength>(
 ) -> Option<Outcome>
     ensures asked { λ r. ⌜ BySome r (Askable (L·Joining .neutral) (L·Joining .size) (L·Joining .largest) nodes (now (edges .entry)) (now (starts .entry)) (now (spare .entry)) → ⊥) (λ _. Askable (L·Joining .neutral) (L·Joining .size) (L·Joining .largest) nodes (now (edges .entry)) (now (starts .entry)) (now (spare .entry))) ⌝ }
     ensures answered { λ r. ⌜ BySome r (Unit {0}) (Answered (L·Joining .neutral) (L·Joining .joined) below nodes (now (edges .entry)) (now (starts .exit))) ⌝ }
-    ensures unchanged { λ r. ⌜ BySome r ((now (starts .exit) ≡ now (starts .entry)) × (now (spare .exit) ≡ now (spare .entry))) (λ _. Unit {0}) ⌝ }
+    ensures left { λ r. ⌜ BySome r ((now (starts .exit) ≡ now (starts .entry)) × (now (spare .exit) ≡ now (spare .entry))) (LeftNeutral (L·Joining .neutral) nodes (now (starts .exit)) (now (spare .exit))) ⌝ }
 {
-    if starts.len() == 64 && spare.len() == 64 && searchable(nodes, edges) {
-        Some(search_levels(nodes, edges, starts, spare))
-    } else {
-        None
+    if starts.len() != 64 || spare.len() != 64 || !searchable(nodes, edges) {
+        return None;
     }
+    let outcome = search_levels(nodes, edges, starts, spare);
+    clear(spare);
+    if let Outcome::Above(_) = outcome {
+        clear(starts);
+    }
+    Some(outcome)
 }

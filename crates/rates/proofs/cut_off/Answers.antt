@@ -1,5 +1,4 @@
 use mathlib.Core.Path.{sym, subst}
-use native.Mathlib.Omega.{arith}
 use Rattle.nets.specs.Views.{of-net}
 use Rattle.nets.proofs.Alone.{ranged}
 use Rattle.rates.specs.Reaching.{Lowest}

@@ -1,4 +1,3 @@
-use mathlib.Core.Path.{refl}
 use Rattle.std.proofs.shelf.Ways.{not-from-decides}
 use Rattle.nets.specs.Views.{of-net}
 use Rattle.nets.proofs.Alone.{ranged}
@@ -36,10 +35,8 @@ loop-lead-again c =
     part-more (of-net (c .args .checked .now .net)) (c .loop-lead .z) (c .reach .last .z) (c .in-Some .lead) (ranged _ (c .args .checked .now .ranged) .checked) (c .loop-lead .inv) (c .in-Some .ensures tt) (c .if-not-reach .ensures tt)
 
 pub returns-then-balanced : need.returns-then-balanced
-returns-then-balanced c = (
-  c .loop-lead .inv .many,
-  balanced-rates (of-net (c .args .checked .now .net)) (c .loop-lead .z) (ranged _ (c .args .checked .now .ranged) .checked) (c .pre) (c .loop-lead .inv) (c .in-rest .ensures tt) (c .balanced .ensures .0 (c .if-balanced .taken)),
-)
+returns-then-balanced c =
+    balanced-rates (of-net (c .args .checked .now .net)) (c .loop-lead .z) (ranged _ (c .args .checked .now .ranged) .checked) (c .pre) (c .loop-lead .inv) (c .in-rest .ensures tt) (c .balanced .ensures .0 (c .if-balanced .taken))
 
 pub returns-else-balanced : need.returns-else-balanced
 returns-else-balanced c =

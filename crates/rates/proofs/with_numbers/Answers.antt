@@ -1,5 +1,4 @@
 use borrow.Author.Needs.{needs}
-use native.Mathlib.Omega.{arith}
 use Rattle.nets.proofs.Alone.{ranged}
 use Rattle.rates.proofs.Tables.{replaced-by, good-by}
 use Rattle.rates.proofs.with_numbers.Needs as need

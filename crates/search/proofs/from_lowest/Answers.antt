@@ -1,5 +1,4 @@
-use mathlib.Core.Path.{_≡_, refl, _∙_, ap}
-use native.Mathlib.Omega.{arith}
+use mathlib.Core.Path.{refl, _∙_, ap}
 use lib.ListN.{replicate}
 use Rattle.search.specs.Levels.{turned}
 use Rattle.search.proofs.Fronts.{front-turned}

@@ -1,4 +1,3 @@
-use mathlib.Core.Path.{_≡_, sym}
 use lib.ListN.{getD}
 use native.Mathlib.Omega.{arith}
 use Rattle.search.proofs.EdgeReads.{begins-read}

@@ -1,9 +1,8 @@
-use Prim.Native.Nat.{ℕ, _<_, _≤_, _+_}
-use mathlib.Core.Path.{_≡_, refl, sym, ap, _∙_}
+use Prim.Native.Nat.{_<_}
 use native.Mathlib.Omega.{arith}
 use borrow.Author.Needs.{needs}
-use lib.ListN.{length, getD}
-use Rattle.search.proofs.EdgeReads.{begins-is, ends-is, lasts-is, from-in, to-in}
+use lib.ListN.{length}
+use Rattle.search.proofs.EdgeReads.{begins-is, lasts-is, from-in, to-in}
 use Rattle.std.proofs.shelf.Lists.{getD-read}
 use Rattle.search.proofs.Stepping.{turn-keep, turn-raise}
 use Rattle.search.proofs.raised_by.Needs as need
@@ -28,20 +27,8 @@ join-reached-requires g c κs =
     let read = getD-read (c .args .before .now) (c .index-edges-i .result .from) (c .index-before-edge .result) in′ (c .index-before-edge .is) (m .neutral) in
     rw read (rw (begins-is _ _ _ lt is, lasts-is _ _ _ lt is (m .neutral)) at room)
 
-pub offset-best-edge : need.offset-best-edge
-offset-best-edge g c =
-    let h = to-in _ _ _ (c .pre .edge) (c .index-edges-i .is) 64 (c .pre .inside) in search needs
-
-pub index-best-edge : need.index-best-edge
-index-best-edge g c =
-    let h = to-in _ _ _ (c .pre .edge) (c .index-edges-i .is) 64 (c .pre .inside) in let k = c .pre .level .many in omega arith
-
-pub offset-best-edge-then-is-below : need.offset-best-edge-then-is-below
-offset-best-edge-then-is-below g c =
-    let h = to-in _ _ _ (c .pre .edge) (c .index-edges-i .is) 64 (c .pre .inside) in search needs
-
-pub index-best-edge-then-is-below : need.index-best-edge-then-is-below
-index-best-edge-then-is-below g c =
+pub raise-requires : need.raise-requires
+raise-requires g c κs =
     let h = to-in _ _ _ (c .pre .edge) (c .index-edges-i .is) 64 (c .pre .inside) in let k = c .pre .level .many in omega arith
 
 pub offset-via-edge : need.offset-via-edge
@@ -52,8 +39,10 @@ pub index-via-edge : need.index-via-edge
 index-via-edge g c =
     to-in _ _ _ (c .pre .edge) (c .index-edges-i .is) 64 (c .pre .inside)
 
-pub returns-then-is-below : need.returns-then-is-below
-returns-then-is-below g c = turn-raise (g .L·Joining .neutral) (g .L·OrderedLength·met .orders) _ _ _ _ _ _ (c .pre .level) (c .pre .edge) (c .pre .inside) _ (c .index-edges-i .is) (c .pre .long) _ _ _ (c .index-before-edge .is) (c .join-reached .ensures) (c .index-best-edge .is) _ (c .is-below .ensures) (c .if-is-below .taken) _ _ _ refl refl refl
+pub returns-then-raise : need.returns-then-raise
+returns-then-raise g c =
+    turn-raise (g .L·Joining .neutral) (g .L·OrderedLength·met .orders) _ _ _ _ _ _ (c .pre .level) (c .pre .edge) (c .pre .inside) _ (c .index-edges-i .is) (c .pre .long) _ _ (c .index-before-edge .is) (c .join-reached .ensures) _ (c .if-raise .ensures tt)
 
 pub returns : need.returns
-returns g c = turn-keep (g .L·Joining .neutral) (g .L·OrderedLength·met .orders) _ _ _ _ _ _ (c .pre .level) (c .pre .edge) (c .pre .inside) _ (c .index-edges-i .is) (c .pre .long) _ _ _ (c .index-before-edge .is) (c .join-reached .ensures) (c .index-best-edge .is) _ (c .is-below .ensures) (c .if-is-below .left) _ _ _ refl refl refl
+returns g c =
+    turn-keep (g .L·Joining .neutral) (g .L·OrderedLength·met .orders) _ _ _ _ _ _ (c .pre .level) (c .pre .edge) (c .pre .inside) _ (c .index-edges-i .is) (c .pre .long) _ _ (c .index-before-edge .is) (c .join-reached .ensures) _ (c .if-raise .ensures tt)
