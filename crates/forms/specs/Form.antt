@@ -1,6 +1,6 @@
 -- A form: which texts there are, and what each tells. F are the faults that a number can have, A is what a text tells.
 use Prim.Native.Nat.{ℕ, _+_}
-use mathlib.Core.Bool.{Bool, true, false}
+use mathlib.Core.Bool.{true, false}
 use mathlib.Core.List.{List, [], _∷_}
 use lib.Dec.{eqb}
 use lib.ListN.{drop}
