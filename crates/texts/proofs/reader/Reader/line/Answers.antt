@@ -65,7 +65,7 @@ loop-again g c =
       row-behind xs ys _ (c .args .count) (omega (arith, held, c .loop-test .taken)) (kept .3) ∙ c .loop .inv .3,
       kept .4 ∙ c .loop .inv .4,
       λ k. and-on (c .loop .inv .5 k)
-      (row-on form xs _ (c .loop .counter) (c .args .count) (c .loop .inv .0) (c .loop-test .taken) k (c .loop .self) (c .row .last .reader) ys _ (kept .0) (c .in-Continue-row .ensures tt .reads)),
+          (row-on form xs _ (c .loop .counter) (c .args .count) (c .loop .inv .0) (c .loop-test .taken) k (c .loop .self) (c .row .last .reader) ys _ (kept .0) (c .in-Continue-row .ensures tt .reads)),
     )
 
 pub returns : need.returns
