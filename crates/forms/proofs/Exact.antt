@@ -1,11 +1,11 @@
 -- Reading a form says of a text exactly what is right, where the form has the pieces' texts for its texts.
-use Prim.Native.Nat.{ℕ, _+_, _≤_}
-use mathlib.Core.Path.{_≡_, refl, sym, ap, subst, _∙_}
-use mathlib.Core.List.{List, [], _∷_, _++_}
+use Prim.Native.Nat.{ℕ, _+_}
+use mathlib.Core.Path.{_≡_, sym, ap, subst, _∙_}
+use mathlib.Core.List.{List, _∷_, _++_}
 use native.Mathlib.Omega.{arith}
-use lib.ListN.{length, take}
+use lib.ListN.{take}
 use Rattle.forms.proofs.Walks.{Spells, loose, Begins, Refuses, Apart, Tells, Along}
-use Rattle.forms.specs.Form.{Form, fine, out, Outcome, got, broken, refused, run}
+use Rattle.forms.specs.Form.{Form, out, Outcome, got, broken, refused, run}
 use Rattle.forms.specs.Pieces.{Piece, num, spelling}
 use Rattle.forms.specs.Texts.{Text, Begun, Refused, Broken, Right}
 use Rattle.forms.proofs.Laws.{tells, reads, refuses}

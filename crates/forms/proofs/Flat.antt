@@ -1,17 +1,17 @@
 -- The texts of a form by their pieces.
-use Prim.Native.Nat.{ℕ, suc, _+_, _<_, _≤_}
+use Prim.Native.Nat.{ℕ, suc, _+_}
 use mathlib.Core.Path.{_≡_, refl, sym, ap, subst, subst₂, _∙_}
-use mathlib.Core.Bool.{Bool, true, false}
-use mathlib.Core.Logic.{_⊎_, inl, inr, ⊎-elim}
+use mathlib.Core.Bool.{false}
+use mathlib.Core.Logic.{inl, inr, ⊎-elim}
 use mathlib.Core.List.{List, [], _∷_, _++_, append-assoc}
 use native.Mathlib.Omega.{arith}
 use lib.ListN.{length, length-append}
 use Rattle.std.specs.declared.option.Option.{Option}
 use Rattle.std.specs.declared.option.Option.the-variants.{Some, None}
 use Rattle.forms.proofs.Walks.{Spells, loose, Refuses, Stops, Apart, Along}
-use Rattle.forms.specs.Marks.{is-digit, numeral, digit-first}
+use Rattle.forms.specs.Marks.{numeral, digit-first}
 use Rattle.forms.specs.Form.{Verdict, fine, out, Form, done, mark, numb, dash-or}
-use Rattle.forms.specs.Pieces.{Piece, byte, num, piece-text, spelling, Fine}
+use Rattle.forms.specs.Pieces.{Piece, byte, num, spelling, Fine}
 
 pub from-spells : {F A : Type 0} (f : Form F A) (a : A) (t : List ℕ) → Spells f a t → (ps : List (Piece F)) × Along f a ps × Fine ps × (t ≡ spelling ps)
 from-spells (done x) a t h = ([], (h .0, refl), tt, h .1)

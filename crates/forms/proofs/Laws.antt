@@ -3,7 +3,7 @@ use Prim.Native.Nat.{ℕ, suc, _+_, _<_, _≤_}
 use mathlib.Core.Path.{_≡_, refl, sym, ap, subst, subst₂, _∙_}
 use mathlib.Core.Bool.{Bool, true, false}
 use mathlib.Core.Logic.{_⊎_, inl, inr, ⊎-elim}
-use mathlib.Core.List.{List, [], _∷_, _++_, append-assoc, append-nil}
+use mathlib.Core.List.{List, [], _∷_, _++_, append-assoc}
 use native.Mathlib.Omega.{arith}
 use lib.Dec.{eqb}
 use lib.ListN.{length, take, drop, length-append}
@@ -11,9 +11,9 @@ use Rattle.std.proofs.shelf.Lists.{drop-at, take-at, append-cancel-left, length
 use Rattle.std.proofs.shelf.Tests.{cases-bool, cases-lt, eq-eqb, eqb-true, eqb-false, both-ways}
 use Rattle.std.specs.declared.option.Option.{Option}
 use Rattle.std.specs.declared.option.Option.the-variants.{Some, None}
-use Rattle.forms.proofs.Walks.{Spells, loose, Begins, Longest, Refuses, Stops, Apart, Tells}
-use Rattle.forms.specs.Marks.{is-digit, numeral, digit-first, Lexed, none, led, number, number-at}
-use Rattle.forms.specs.Form.{Verdict, fine, out, Form, done, mark, numb, dash-or, Outcome, got, broken, refused, judged, numbered, run}
+use Rattle.forms.proofs.Walks.{Spells, loose, Begins, Refuses, Stops, Apart, Tells}
+use Rattle.forms.specs.Marks.{is-digit, numeral, digit-first, led, number, number-at}
+use Rattle.forms.specs.Form.{Verdict, fine, out, Form, done, mark, numb, dash-or, Outcome, got, broken, refused, judged, run}
 use Rattle.forms.proofs.Numbers.{View, no-number, zero-led, a-number, view, number-numeral, numeral-first, numeral-zero, led-read}
 use Rattle.forms.proofs.Fronts.{head-same, tail-same, cons-nil, split-front, first-front}
 

@@ -1,18 +1,20 @@
 -- What stands where a number is looked for.
-use Prim.Native.Nat.{ℕ, zero, suc, _+_, _-_, _*_, _/_, _%_, _<_, _≤_}
+use Prim.Native.Nat.{ℕ, zero, suc, _+_, _-_, _*_, _/_, _%_, _^_, _<_, _≤_}
 use mathlib.Core.Path.{_≡_, refl, sym, ap, subst, _∙_}
-use mathlib.Core.Bool.{Bool, true, false, cond}
+use mathlib.Core.Bool.{Bool, true, false}
 use mathlib.Core.List.{List, [], _∷_, _++_, map, append-assoc, append-nil, map-append}
-use mathlib.Core.Logic.{_⊎_, inl, inr, ⊎-elim}
+use mathlib.Core.Logic.{⊎-elim}
 use native.Mathlib.Omega.{arith}
-use lib.Dec.{eqb, leb}
+use lib.Dec.{eqb}
 use lib.ListN.{length, length-map, getD}
-use Rattle.std.specs.shelf.Lists.{leading, All}
+use Rattle.std.specs.shelf.Lists.{leading}
 use Rattle.std.specs.shelf.Digits.{digitsOf, numberAfter, number as numberOf, Under}
 use Rattle.std.proofs.shelf.Digits.{digitsOf-step, under-digitsOf, first-digitsOf, number-digitsOf, numberAfter-ge}
-use Rattle.std.proofs.shelf.Tests.{cases-bool, cases-eq, cases-lt, lt-ltb, le-ltb, eqb-true, eqb-false, ne-eqb, both-ways}
+use Rattle.std.specs.Written.{decimal}
+use Rattle.std.proofs.shelf.Decimals.{decimal-digitsOf, decimal-digit}
+use Rattle.std.proofs.shelf.Tests.{cases-bool, cases-eq, cases-lt, lt-ltb, le-ltb, ne-eqb}
 use Rattle.std.proofs.shelf.Ways.{tells}
-use Rattle.forms.specs.Marks.{is-digit, spell, numeral, digit-first, value-on, Lexed, none, led, number, number-at}
+use Rattle.forms.specs.Marks.{is-digit, spell, numeral, digit-first, value-on, none, led, number, number-at}
 
 abbrev byte-of : ℕ → ℕ
 byte-of d = 48 + d
@@ -105,6 +107,13 @@ numeral-pos v p = spell-pos (suc v) v [] p (omega arith) ∙ append-nil (map byt
 pub numeral-zero : numeral 0 ≡ 48 ∷ []
 unfolding numeral
 numeral-zero = refl
+
+pub numeral-decimal : (n : ℕ) → n < 2 ^ 64 → numeral n ≡ decimal n
+numeral-decimal n h =
+    ⊎-elim
+    (λ z. subst (λ x. numeral x ≡ decimal x) (sym z) (numeral-zero ∙ sym (decimal-digit 0 (omega arith))))
+    (λ m. let p : 0 < n = omega arith in numeral-pos n p ∙ sym (decimal-digitsOf n p h))
+    (cases-eq n 0)
 
 pub led-read : (d : ℕ) (ds : List ℕ) → is-digit d ≡ true → number-at (48 ∷ d ∷ ds) ≡ led
 unfolding number-at

@@ -8,7 +8,7 @@ use lib.ListN.{length, take}
 use Rattle.std.specs.declared.option.Option.{Option}
 use Rattle.std.specs.declared.option.Option.the-variants.{Some, None}
 use Rattle.forms.specs.Marks.{is-digit, numeral, digit-first}
-use Rattle.forms.specs.Form.{Verdict, fine, out, Form, done, mark, numb, dash-or, Outcome, got, broken, refused}
+use Rattle.forms.specs.Form.{fine, out, Form, done, mark, numb, dash-or, Outcome, got, broken, refused}
 use Rattle.forms.specs.Pieces.{Piece, byte, num}
 
 -- t is a text of the form, with fine numbers, and tells a

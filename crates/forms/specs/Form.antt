@@ -1,6 +1,6 @@
 -- A form: which texts there are, and what each tells. F are the faults that a number can have, A is what a text tells.
 use Prim.Native.Nat.{ℕ, _+_}
-use mathlib.Core.Bool.{Bool, true, false}
+use mathlib.Core.Bool.{true, false}
 use mathlib.Core.List.{List, [], _∷_}
 use lib.Dec.{eqb}
 use lib.ListN.{drop}
@@ -27,10 +27,12 @@ pub data Outcome (F A : Type 0) : Type 0 where
   broken : ℕ → Outcome F A
   refused : F → ℕ → Outcome F A
 
+-- a number is judged as soon as it is complete, before what follows it is read
 abbrev pub judged : {F A : Type 0} → Verdict F → ℕ → Outcome F A → Outcome F A
 judged fine at o = o
 judged (out m) at o = refused m at
 
+-- no number breaks the form at its place, and a 0 with a digit behind it at that digit
 abbrev pub numbered : {F A : Type 0} → Lexed → (ℕ → Verdict F) → ℕ → (ℕ → ℕ → Outcome F A) → Outcome F A
 numbered none j at go = broken at
 numbered led j at go = broken (at + 1)

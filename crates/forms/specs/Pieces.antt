@@ -5,6 +5,7 @@ use mathlib.Core.List.{List, [], _∷_, _++_}
 use Rattle.forms.specs.Marks.{numeral}
 use Rattle.forms.specs.Form.{Verdict, fine}
 
+-- a byte, or a number of any size
 pub data Piece (F : Type 0) : Type 0 where
   byte : ℕ → Piece F
   num : ℕ → Verdict F → Piece F

@@ -1,14 +1,14 @@
 -- Numbers that are read, and what the draft says of them.
-use Prim.Native.Nat.{ℕ, _+_, _-_, _^_, min, _<_, _≤_}
+use Prim.Native.Nat.{ℕ, _+_, _-_, _^_, min, _<_}
 use mathlib.Core.Path.{_≡_, refl, sym, ap, subst, _∙_}
 use mathlib.Core.Bool.{Bool, true, false, cond}
-use mathlib.Core.Logic.{_⊎_, inl, inr, ⊎-elim}
-use mathlib.Core.List.{List, [], _∷_}
+use mathlib.Core.Logic.{⊎-elim}
+use mathlib.Core.List.{List, _∷_}
 use native.Mathlib.Omega.{arith}
 use lib.ListN.{length, drop, getD}
 use denote.Ref.{now}
 use Rattle.std.proofs.shelf.Lists.{drop-more, drop-drop}
-use Rattle.std.proofs.shelf.Tests.{cases-bool, cases-lt, cases-eq}
+use Rattle.std.proofs.shelf.Tests.{cases-eq}
 use Rattle.std.proofs.shelf.Ways.{tells}
 use Rattle.std.specs.shelf.Lists.{leading}
 use Rattle.std.specs.Results.{Cases}
@@ -22,12 +22,11 @@ use Rattle.drafts.specs.Faults.{outside, judged, placed, range-fault, station-f
 use Rattle.forms.specs.Marks.{is-digit, digit-first, value-on, Lexed, none, led, number, number-at}
 use Rattle.forms.specs.Form as form
 use Rattle.texts.specs.declared.fault.TextFault.{TextFault}
-use Rattle.texts.specs.declared.fault.TextFault.the-variants.{Form, Draft}
 use Rattle.texts.specs.declared.reader.Reader.{Reader}
 use Rattle.texts.specs.Faults.{Worded, said}
 use Rattle.texts.specs.NetText.{verdict}
 use Rattle.texts.specs.NetForm.{NetForm, asked}
-use Rattle.texts.specs.Reading.{rest, Goes, Halts, Reads, Leaves, Numbered, Placed, Asks}
+use Rattle.texts.specs.Reading.{rest, Goes, Halts, Numbered, Placed, Asks}
 use Rattle.texts.proofs.Steps.{number-none, number-led, number-zero, number-more, value-stop, leading-stop}
 
 -- what `number` finds

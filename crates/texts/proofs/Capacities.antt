@@ -1,15 +1,12 @@
 -- A capacity, or a dash in its place.
-use Prim.Native.Nat.{ℕ, _+_, _-_, _^_, min, _<_, _≤_}
+use Prim.Native.Nat.{ℕ, _+_, _-_, _^_, min, _<_}
 use mathlib.Core.Path.{_≡_, refl, sym, ap, subst, _∙_}
-use mathlib.Core.Bool.{Bool, true, false, cond}
-use mathlib.Core.Logic.{_⊎_, inl, inr, ⊎-elim}
-use mathlib.Core.List.{List}
+use mathlib.Core.Logic.{⊎-elim}
 use native.Mathlib.Omega.{arith}
 use lib.ListN.{length, drop, getD}
 use denote.Ref.{now}
 use Rattle.std.proofs.shelf.Tests.{cases-lt}
 use Rattle.std.proofs.shelf.Ways.{tells}
-use Rattle.std.specs.Results.{Cases}
 use Rattle.std.specs.declared.option.Option.{Option}
 use Rattle.std.specs.declared.option.Option.the-variants.{Some, None}
 use Rattle.std.specs.declared.result.Result.{Result}
@@ -23,11 +20,11 @@ use Rattle.texts.specs.declared.lexer.Mark.the-variants.{Dash}
 use Rattle.texts.specs.declared.lexer.Lexeme.the-variants.{Sign}
 use Rattle.texts.specs.declared.fault.TextFault.{TextFault}
 use Rattle.texts.specs.declared.reader.Reader.{Reader}
-use Rattle.texts.specs.Faults.{Worded, said}
+use Rattle.texts.specs.Faults.{Worded}
 use Rattle.texts.specs.Lexemes.{lexeme-at}
-use Rattle.texts.specs.NetText.{verdict, room-fault}
+use Rattle.texts.specs.NetText.{room-fault}
 use Rattle.texts.specs.NetForm.{NetForm, asked, capacity-entry}
-use Rattle.texts.specs.Reading.{rest, Goes, Halts, Numbered, Placed, ReadsCapacity}
+use Rattle.texts.specs.Reading.{rest, Halts, Numbered, Placed, ReadsCapacity}
 use Rattle.texts.proofs.Steps.{run-capacity-dash, run-capacity-number}
 use Rattle.texts.proofs.Asked.{Bounds, range-bounds, Judges, number-fine, number-refused, number-out, number-err}
 

@@ -1,6 +1,6 @@
 -- Parts of a reading, one after another.
 use Prim.Native.Nat.{ℕ}
-use mathlib.Core.Path.{_≡_, refl, sym, ap, subst, _∙_}
+use mathlib.Core.Path.{_≡_, sym, ap, subst, _∙_}
 use mathlib.Core.List.{List}
 use lib.ListN.{drop}
 use denote.Ref.{now}
@@ -9,10 +9,10 @@ use Rattle.std.specs.declared.result.Result.the-variants.{Ok, Err}
 use Rattle.forms.specs.Form.{broken, run}
 use Rattle.texts.specs.declared.fault.Word.{Word}
 use Rattle.texts.specs.declared.fault.TextFault.{TextFault}
-use Rattle.texts.specs.declared.fault.TextFault.the-variants.{Form, Draft}
+use Rattle.texts.specs.declared.fault.TextFault.the-variants.{Form}
 use Rattle.texts.specs.declared.reader.Reader.{Reader}
 use Rattle.texts.specs.Lexemes.{word-of}
-use Rattle.texts.specs.Faults.{Worded, said}
+use Rattle.texts.specs.Faults.{Worded}
 use Rattle.texts.specs.NetForm.{NetForm}
 use Rattle.texts.specs.Reading.{rest, Goes, Halts, Found, filled, Started}
 

@@ -1,9 +1,8 @@
 -- The whole text, read through the stages.
 use Prim.Native.Nat.{ℕ}
-use mathlib.Core.Path.{_≡_, refl, sym, ap, subst, _∙_}
-use mathlib.Core.List.{List, []}
+use mathlib.Core.Path.{_≡_, sym, ap, subst, _∙_}
+use mathlib.Core.List.{List}
 use lib.ListN.{take, drop}
-use denote.Ref.{now}
 use Rattle.std.specs.declared.result.Result.{Result}
 use Rattle.std.specs.declared.result.Result.the-variants.{Ok, Err}
 use Rattle.drafts.specs.declared.fault.DraftFault.{DraftFault}
@@ -14,12 +13,12 @@ use Rattle.drafts.specs.Stages.{blank}
 use Rattle.forms.specs.Form.{done, got, run}
 use Rattle.texts.specs.declared.fault.TextFault.{TextFault}
 use Rattle.texts.specs.declared.reader.Reader.{Reader}
-use Rattle.texts.specs.Faults.{Worded, said}
+use Rattle.texts.specs.Faults.{Worded}
 use Rattle.texts.specs.NetText.{Entries}
-use Rattle.texts.specs.NetForm.{NetForm, net-form}
+use Rattle.texts.specs.NetForm.{net-form}
 use Rattle.texts.specs.Reading.{rest, Started, Goes, Halts}
 use Rattle.texts.specs.Rows.{no-durations, no-ends, no-terms}
-use Rattle.texts.specs.Outcomes.{entries-of, BlankBehind, outcome, Fills}
+use Rattle.texts.specs.Outcomes.{entries-of, BlankBehind, Fills}
 use Rattle.texts.proofs.Chains.{goes-start}
 
 pub fills-err : (x : Reader) (t : List ℕ) → Started x t → (tables : Tables) (r : Result Filled TextFault) (e : TextFault) → (d : TextFault) × (r ≡ Err d) × (d ≡ e) → Halts x net-form e → Fills t r tables

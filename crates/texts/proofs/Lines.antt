@@ -1,16 +1,15 @@
 -- The entries of a line, one after another.
 use Prim.Native.Nat.{ℕ, suc, _+_, _-_, _<_, _≤_}
 use mathlib.Core.Path.{_≡_, refl, sym, ap, subst, _∙_}
-use mathlib.Core.List.{List, [], _∷_, _++_}
+use mathlib.Core.List.{List}
 use native.Mathlib.Omega.{arith}
-use lib.ListN.{length, take, drop}
+use lib.ListN.{take, drop}
 use Rattle.std.proofs.shelf.Lists.{drop-drop}
 use Rattle.std.specs.Vec.{made}
 use Rattle.std.specs.declared.result.Result.{Result}
 use Rattle.std.specs.declared.result.Result.the-variants.{Ok, Err}
-use Rattle.forms.specs.Form.{mark}
 use Rattle.forms.specs.Lines.{rows}
-use Rattle.forms.proofs.Parts.{rows-start, rows-more, rows-end}
+use Rattle.forms.proofs.Parts.{rows-more, rows-end}
 use Rattle.texts.specs.declared.fault.TextFault.{TextFault}
 use Rattle.texts.specs.declared.reader.Reader.{Reader}
 use Rattle.texts.specs.NetForm.{NetForm}

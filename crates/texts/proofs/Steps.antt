@@ -1,29 +1,25 @@
 -- One step of a reading, at a place of the text.
-use Prim.Native.Nat.{ℕ, suc, _+_, _-_, _*_, _^_, min, _<_, _≤_}
-use mathlib.Core.Path.{_≡_, refl, sym, ap, subst, _∙_}
+use Prim.Native.Nat.{ℕ, _+_, _-_, _*_, _^_, min, _<_, _≤_}
+use mathlib.Core.Path.{_≡_, refl, sym, ap, _∙_}
 use mathlib.Core.Bool.{Bool, true, false, cond}
-use mathlib.Core.Logic.{_⊎_, inl, inr, ⊎-elim}
-use mathlib.Core.List.{List, [], _∷_, _++_}
+use mathlib.Core.Logic.{⊎-elim}
+use mathlib.Core.List.{List, [], _∷_}
 use native.Mathlib.Omega.{arith}
 use lib.Dec.{eqb}
 use lib.ListN.{length, drop, getD}
-use Rattle.std.proofs.shelf.Lists.{drop-more, at-drop-more, at-drop-all, drop-all, drop-drop}
-use Rattle.std.proofs.shelf.Tests.{cases-bool, cases-lt, cases-eq, eqb-true, eq-eqb, ne-eqb, both-ways}
+use Rattle.std.proofs.shelf.Lists.{at-drop-more, at-drop-all}
+use Rattle.std.proofs.shelf.Tests.{cases-bool, cases-lt, eq-eqb, ne-eqb, both-ways}
 use Rattle.std.proofs.shelf.Ways.{tells}
 use Rattle.texts.specs.declared.lexer.Mark.{Mark}
 use Rattle.texts.specs.declared.lexer.Mark.the-variants.{Space, Newline, Arrow, Colon, Dash}
-use Rattle.texts.specs.declared.lexer.Lexeme.{Lexeme}
-use Rattle.texts.specs.declared.lexer.Lexeme.the-variants.{Sign, Digit, Other, End}
+use Rattle.texts.specs.declared.lexer.Lexeme.the-variants.{Sign, Digit, End}
 use Rattle.std.specs.shelf.Lists.{leading}
 use Rattle.std.proofs.shelf.Sums.{leading-drop-yes}
-use Rattle.std.specs.declared.result.Result.{Result}
-use Rattle.std.specs.declared.result.Result.the-variants.{Ok, Err}
-use denote.Ref.{now}
 use Rattle.std.specs.declared.option.Option.{Option}
 use Rattle.std.specs.declared.option.Option.the-variants.{Some, None}
-use Rattle.forms.specs.Marks.{is-digit, digit-first, value-on, Lexed, none, led, number, number-at}
+use Rattle.forms.specs.Marks.{is-digit, digit-first, value-on, none, led, number, number-at}
 use Rattle.texts.specs.Lexemes.{lexeme-of, lexeme-at, byte-of}
-use Rattle.forms.specs.Form.{Verdict, fine, out, Form, done, mark, numb, dash-or, Outcome, got, broken, refused, judged, numbered, run}
+use Rattle.forms.specs.Form.{Verdict, Form, done, mark, numb, dash-or, Outcome, got, broken, run}
 
 pub run-mark-yes : {F A : Type 0} (at b : ℕ) (k : Form F A) (t : List ℕ) → at < length t → getD t at 0 ≡ b → run at (mark b k) (drop at t) ≡ run (at + 1) k (drop (at + 1) t)
 run-mark-yes {F} {A} at b k t h e =

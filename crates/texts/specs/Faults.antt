@@ -18,6 +18,7 @@ abbrev pub told-of : TextFault → ℕ × ℕ
 told-of (Form w) = (1, w .at)
 told-of (Draft f w) = (drafts.told-of f .0, w .at)
 
+-- the word that a fault is about
 abbrev pub word-at-fault : TextFault → Word
 word-at-fault (Form w) = w
 word-at-fault (Draft f w) = w

@@ -11,6 +11,7 @@ use Rattle.texts.specs.declared.lexer.Mark.the-variants.{Space, Newline, Arrow
 use Rattle.texts.specs.declared.lexer.Lexeme.{Lexeme}
 use Rattle.texts.specs.declared.lexer.Lexeme.the-variants.{Sign, Digit, Other, End}
 
+-- the byte of each mark
 abbrev pub byte-of : Mark → ℕ
 byte-of Space = 32
 byte-of Newline = 10
@@ -25,6 +26,7 @@ lexeme-of b =
     (cond (eqb b 62) (Sign Arrow)
     (cond (eqb b 58) (Sign Colon) (cond (eqb b 45) (Sign Dash) (cond (is-digit b) (Digit (b - 48)) Other)))))
 
+-- what stands at the front of what is left
 abbrev pub lexeme-at : List ℕ → Lexeme
 lexeme-at [] = End
 lexeme-at (c ∷ cs) = lexeme-of c

@@ -5,3 +5,4 @@ pub mod NetForm
 pub mod Reading
 pub mod Rows
 pub mod Outcomes
+pub mod Examples

@@ -12,6 +12,7 @@ use Rattle.forms.specs.Form.{Form, done, mark, numb, dash-or}
 use Rattle.forms.specs.Lines.{word, line}
 use Rattle.texts.specs.NetText.{Entries, verdict, room-fault}
 
+-- forms whose faults are the draft's and whose texts tell entries
 abbrev pub NetForm : Type 0
 NetForm = Form DraftFault Entries
 
@@ -19,6 +20,7 @@ NetForm = Form DraftFault Entries
 abbrev pub asked : (ℕ → Option DraftFault) → (ℕ → NetForm) → NetForm
 asked fault k = numb (λ v. verdict (fault v)) k
 
+-- each part goes on with what it has read
 abbrev pub sizes-entry : (NetSizes → NetForm) → NetForm
 sizes-entry k =
     mark 32 (asked (range-fault 1 1 64) (λ n.

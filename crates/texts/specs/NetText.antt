@@ -35,6 +35,7 @@ abbrev pub verdict : Option DraftFault → Verdict DraftFault
 verdict None = fine
 verdict (Some f) = out f
 
+-- a number of which the draft may have a fault
 abbrev pub number : (ℕ → Option DraftFault) → ℕ → Piece DraftFault
 number fault v = num v (verdict (fault v))
 
@@ -44,6 +45,7 @@ sizes-pieces s =
     letters (codes "net") ++ byte 32 ∷ number (range-fault 1 1 64) (s .stations) ∷ byte 32 ∷ number (range-fault 2 0 128) (s .links)
     ∷ byte 32 ∷ number (range-fault 3 1 1_000_000) (s .pace .share) ∷ byte 32 ∷ number (range-fault 4 1 10_000_000_000) (s .pace .unit) ∷ byte 10 ∷ []
 
+-- one duration
 abbrev pub duration-pieces : ℕ → List (Piece DraftFault)
 duration-pieces d = number (range-fault 1 1 10_000) d ∷ []
 
@@ -55,6 +57,7 @@ ends-pieces n e = number (station-fault 1 n) (e .from) ∷ byte 62 ∷ number (s
 abbrev pub room-fault : ℕ → ℕ → ℕ → Option DraftFault
 room-fault link stock c = or-else (range-fault 4 0 10_000 c) (below-stock link stock (Some c))
 
+-- a dash stands for no capacity
 abbrev pub capacity-piece : ℕ → ℕ → Option ℕ → Piece DraftFault
 capacity-piece link stock None = byte 45
 capacity-piece link stock (Some c) = number (room-fault link stock) c

@@ -19,9 +19,11 @@ use Rattle.texts.specs.Faults.{Worded, said}
 use Rattle.texts.specs.NetText.{Entries}
 use Rattle.texts.specs.NetForm.{NetForm, asked, capacity-entry}
 
+-- what is left of the text
 abbrev pub rest : Reader → List ℕ
 rest x = drop (x .at) (now (x .text))
 
+-- a reader of t, at its beginning
 abbrev pub Started : Reader → List ℕ → Type 0
 Started x t = (now (x .text) ≡ t) × (x .at ≡ 0)
 

@@ -1,6 +1,7 @@
 ghost use mathlib.Core.Path.{_≡_};
 ghost use Rattle.texts.specs.Lexemes.{lexeme-of, is-mark};
 
+// The marks of a text.
 #[derive(Clone, Copy, PartialEq, Eq)]
 pub enum Mark {
     Space,
@@ -19,6 +20,7 @@ pub enum Lexeme {
     End,
 }
 
+// What a byte is.
 pub fn lex(b: u8) -> Lexeme
     ensures { λ r. ⌜ r ≡ lexeme-of b ⌝ }
 {
@@ -33,6 +35,7 @@ pub fn lex(b: u8) -> Lexeme
     }
 }
 
+// Whether a byte ends a word.
 pub fn is_mark(b: u8) -> bool
     ensures { λ r. ⌜ r ≡ is-mark b ⌝ }
 {

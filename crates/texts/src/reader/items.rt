@@ -21,12 +21,13 @@ use crate::reader::Reader;
 use drafts::fault::DraftFault;
 
 impl<'a> Reader<'a> {
-    pub fn new(text: &'a [u8]) -> Reader<'a>
+    pub(crate) fn new(text: &'a [u8]) -> Reader<'a>
         ensures { λ r. ⌜ Started r (now (text .entry)) ⌝ }
     {
         Reader { text, at: 0 }
     }
 
+    // What stands here.
     pub(crate) fn peek(&self) -> Lexeme
         ensures { λ r. ⌜ r ≡ lexeme-at (rest (now (self .entry))) ⌝ }
     {

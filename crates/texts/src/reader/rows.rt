@@ -20,20 +20,21 @@ use drafts::tables::Tables;
 use nets::LinkEnds;
 use nets::LinkTerms;
 
+// A stage whose entries stand in a line of the text.
 pub(crate) trait Rows: Sized {
     type Entry;
 
-    // the form of an entry: how many stations there are, and how many entries stand before it
+    // The form of an entry, by how many stations there are and how many entries stand before it.
     ghost form: { ℕ → ℕ → (Self·Entry → NetForm) → NetForm };
 
     ghost sizes: { Self → NetSizes };
 
     ghost held: { Self → ℕ };
 
-    // how many entries it awaits
+    // How many entries it awaits.
     ghost awaited: { NetSizes → ℕ };
 
-    // where its entries stand, and the tables without them
+    // Where its entries stand, and the tables without them.
     ghost column: { Tables → List Self·Entry };
 
     ghost others: { Tables → Tables };

@@ -1,7 +1,6 @@
 use borrow.Author.Needs.{needs}
-use mathlib.Core.Path.{_≡_, refl, sym, ap, _∙_}
+use mathlib.Core.Path.{_≡_, refl, sym, _∙_}
 use native.Mathlib.Omega.{arith}
-use Prim.Native.Nat.{ℕ}
 use Rattle.forms.specs.Form.{mark}
 use Rattle.texts.specs.declared.lexer.Lexeme.the-variants.{Sign}
 use Rattle.texts.specs.Lexemes.{byte-of}

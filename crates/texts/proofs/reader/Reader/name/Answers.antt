@@ -1,11 +1,10 @@
-use mathlib.Core.Path.{_≡_, refl, sym, ap, _∙_}
+use mathlib.Core.Path.{_≡_, refl, _∙_}
 use native.Mathlib.Omega.{arith}
-use Prim.Native.Nat.{ℕ, _+_}
-use lib.ListN.{drop, getD, length}
+use Prim.Native.Nat.{_+_}
+use lib.ListN.{drop}
 use Rattle.std.proofs.shelf.Lists.{at-drop-more, at-drop-all}
 use Rattle.forms.specs.Form.{run, broken}
 use Rattle.forms.specs.Lines.{word}
-use Rattle.texts.specs.NetForm.{NetForm}
 use Rattle.texts.proofs.Steps.{run-mark-yes, run-mark-no, run-mark-end}
 use Rattle.texts.proofs.Chains.{and-on, and-halt, halts-form}
 use Rattle.texts.proofs.reader.Reader.name.Needs as need

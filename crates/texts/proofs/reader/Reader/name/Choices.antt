@@ -1,4 +1,3 @@
-use Prim.Native.Nat.{_+_}
 use lib.ListN.{drop}
 use Rattle.forms.specs.Lines.{word}
 use Rattle.texts.specs.NetForm.{NetForm}

@@ -1,8 +1,8 @@
 use mathlib.Core.Path.{_≡_, refl, sym, ap, subst, _∙_}
 use mathlib.Core.Bool.{true, false}
 use native.Mathlib.Omega.{arith}
-use Prim.Native.Nat.{ℕ, _+_, _-_, _*_, _^_, min}
-use lib.ListN.{length, drop, getD}
+use Prim.Native.Nat.{_+_, _-_, _*_, _^_, min}
+use lib.ListN.{drop, getD}
 use Rattle.std.proofs.shelf.Ways.{tells}
 use Rattle.std.specs.shelf.Lists.{leading}
 use Rattle.forms.specs.Marks.{is-digit, digit-first, value-on}

@@ -1,6 +1,6 @@
-use Prim.Native.Nat.{_+_, _-_, _^_, _<_, _≤_, min}
+use Prim.Native.Nat.{_+_, _-_, _^_, _<_, min}
 use mathlib.Core.Path.{_≡_}
-use lib.ListN.{length, drop}
+use lib.ListN.{length}
 use denote.Ref.{now}
 use Rattle.std.specs.shelf.Lists.{leading}
 use Rattle.forms.specs.Marks.{value-on, is-digit}

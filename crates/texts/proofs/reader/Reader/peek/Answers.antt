@@ -1,5 +1,4 @@
-use mathlib.Core.Path.{sym, ap, _∙_}
-use native.Mathlib.Omega.{arith}
+use mathlib.Core.Path.{sym, _∙_}
 use Rattle.texts.proofs.Steps.{lexeme-here, lexeme-end}
 use Rattle.texts.proofs.reader.Reader.peek.Needs as need
 

@@ -1,5 +1,5 @@
-use Prim.Native.Nat.{ℕ, _+_, _<_}
-use mathlib.Core.Path.{_≡_, refl, sym, ap, subst, _∙_}
+use Prim.Native.Nat.{ℕ}
+use mathlib.Core.Path.{_≡_, sym, ap, subst, _∙_}
 use mathlib.Core.List.{List, [], _∷_, _++_}
 use mathlib.Core.Logic.{⊎-elim}
 use native.Mathlib.Omega.{arith}
@@ -9,7 +9,6 @@ use Rattle.std.proofs.shelf.Lists.{length-take-le}
 use Rattle.std.specs.declared.option.Option.{Option}
 use Rattle.std.specs.declared.option.Option.the-variants.{Some, None}
 use Rattle.nets.specs.declared.LinkTerms.{LinkTerms}
-use Rattle.drafts.specs.declared.fault.DraftFault.{DraftFault}
 use Rattle.drafts.specs.Faults.{range-fault}
 use Rattle.drafts.specs.Entries.{below-stock}
 use Rattle.forms.specs.Form.{mark}

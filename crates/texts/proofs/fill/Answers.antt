@@ -1,10 +1,10 @@
-use mathlib.Core.Path.{_≡_, _∙_, sym, ap}
+use mathlib.Core.Path.{_≡_, _∙_}
 use lib.ListN.{take}
 use Rattle.std.proofs.shelf.Results.{err-from-errBy}
 use Rattle.texts.specs.NetForm.{net-form, after-sizes, after-durations, after-ends, after-terms}
 use Rattle.texts.proofs.Chains.{and-on, and-halt}
 use Rattle.texts.proofs.Fills.{fills-err, fills-ok}
-use Rattle.texts.proofs.read.fill.Needs as need
+use Rattle.texts.proofs.fill.Needs as need
 
 pub returns-in-Break-counts : need.returns-in-Break-counts
 unfolding net-form

@@ -10,7 +10,7 @@ use Rattle.texts.specs.NetText.{Whole, pieces}
 use Rattle.texts.specs.NetForm.{net-form}
 use Rattle.texts.specs.Outcomes.{outcome}
 use Rattle.texts.proofs.NetTexts.{net-describes}
-use Rattle.texts.proofs.read.read.Needs as need
+use Rattle.texts.proofs.read.Needs as need
 
 refused-any : {X E : Type 0} (r : Result X E) (P : E → Type 0) → ((e : E) → P e) → refused r P
 refused-any (Ok x) P h = tt
