@@ -10,7 +10,7 @@ use std::error::AnyError;
 use std::io::BufRead;
 use std::io::BufReader;
 use std::io::Write;
-use texts::read::read;
+use texts::read;
 
 fn hex_digit(b: u8) -> u8
     ensures { λ r. ⌜ r < 16 ⌝ }

@@ -6,7 +6,7 @@ use crate::text::LoadFaultOfBoard;
 use crate::text::LoadFaultOfText;
 use drafts::tables::Tables;
 use nets::CircuitStep;
-use texts::read::read;
+use texts::read;
 
 impl Board {
     // Reads a net text into a draft of its own, and loads that.
