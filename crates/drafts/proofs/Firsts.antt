@@ -32,7 +32,7 @@ pub exit : (r : Result (Unit {0}) DraftFault) (e : DraftFault) (w : Option Draft
 exit r e w p q = ap faulted (p .1 ∙ ap Err (p .2)) ∙ sym q
 
 -- no entry fails where there is no first fault
-or-none : (v w : Option DraftFault) → or-else v w ≡ None → (v ≡ None) × (w ≡ None)
+pub or-none : (v w : Option DraftFault) → or-else v w ≡ None → (v ≡ None) × (w ≡ None)
 or-none None w e = (refl, e)
 or-none (Some g) w e = absurd (let z : _≡_ {A = ℕ} 0 1 = cc in omega arith)
 

@@ -2,3 +2,4 @@ pub mod Faults
 pub mod Entries
 pub mod Stages
 pub mod Checks
+pub mod Offered

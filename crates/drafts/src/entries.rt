@@ -8,7 +8,7 @@ use crate::stage::NetSizes;
 use nets::LinkEnds;
 use nets::LinkTerms;
 
-pub fn check_sizes(sizes: NetSizes) -> Result<(), DraftFault>
+pub(crate) fn check_sizes(sizes: NetSizes) -> Result<(), DraftFault>
     ensures { λ r. ⌜ faulted r ≡ sizes-fault sizes ⌝ }
 {
     numbers::stations(sizes.stations as u64)?;
@@ -18,14 +18,14 @@ pub fn check_sizes(sizes: NetSizes) -> Result<(), DraftFault>
     Ok(())
 }
 
-pub fn check_duration(duration: u16) -> Result<(), DraftFault>
+pub(crate) fn check_duration(duration: u16) -> Result<(), DraftFault>
     ensures { λ r. ⌜ faulted r ≡ duration-fault duration ⌝ }
 {
     numbers::duration(duration as u64)?;
     Ok(())
 }
 
-pub fn check_ends(stations: u8, ends: LinkEnds) -> Result<(), DraftFault>
+pub(crate) fn check_ends(stations: u8, ends: LinkEnds) -> Result<(), DraftFault>
     ensures { λ r. ⌜ faulted r ≡ ends-fault stations ends ⌝ }
 {
     numbers::station(1, stations, ends.from as u64)?;
@@ -33,7 +33,7 @@ pub fn check_ends(stations: u8, ends: LinkEnds) -> Result<(), DraftFault>
     Ok(())
 }
 
-pub fn check_terms(terms: LinkTerms) -> Result<(), DraftFault>
+pub(crate) fn check_terms(terms: LinkTerms) -> Result<(), DraftFault>
     ensures { λ r. ⌜ faulted r ≡ terms-fault terms ⌝ }
 {
     numbers::batch(1, terms.produced as u64)?;
@@ -46,7 +46,7 @@ pub fn check_terms(terms: LinkTerms) -> Result<(), DraftFault>
 }
 
 // That the capacity of the link of this number is not below its stock.
-pub fn check_room(link: u8, terms: LinkTerms) -> Result<(), DraftFault>
+pub(crate) fn check_room(link: u8, terms: LinkTerms) -> Result<(), DraftFault>
     ensures { λ r. ⌜ faulted r ≡ room-fault link terms ⌝ }
 {
     match terms.capacity {

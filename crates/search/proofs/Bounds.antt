@@ -1,22 +1,19 @@
 -- What chains say of any starts that keep every edge. Assumes nothing.
-use mathlib.Core.Path.{_≡_, refl, sym, ap, _∙_}
+use mathlib.Core.Path.{_≡_}
 use mathlib.Core.Bool.{Bool, true, false}
 use mathlib.Core.List.{List, [], _∷_}
-use Prim.Native.Nat.{ℕ, _<_}
+use Prim.Native.Nat.{ℕ}
 use lib.ListN.{length, getD}
 use Rattle.std.proofs.shelf.Tests.{both-ways}
 use Rattle.lengths.specs.Laws.{JoinLaws, OrderLaws}
 use Rattle.search.specs.declared.Edge.{Edge}
-use Rattle.search.specs.Terms.{begins, ends, lasts, EdgeChain, total, EdgesKept}
-use Rattle.search.proofs.Order.{le-le, le-kept}
+use Rattle.search.specs.Terms.{ends, lasts, EdgeChain, total, EdgesKept}
+use Rattle.search.proofs.Order.{right, le-le, le-kept}
 
 module _ {L : Type 0} {neutral : L} {joined : L → L → L} {opposite : L → L} {size : L → ℕ} {below : L → L → Bool} (j : JoinLaws neutral joined opposite size) (o : OrderLaws joined below) (es : List (Edge L)) (s : List L) (kept : EdgesKept neutral joined below es s) where
-  right : (x : L) → joined x neutral ≡ x
-  right x = j .comm x neutral ∙ j .left x
-
   -- a chain's end starts at least the chain's length after its beginning
   pub along : (a : ℕ) (c : List ℕ) (y : ℕ) → EdgeChain es a c y → below (getD s y neutral) (joined (getD s a neutral) (total neutral joined es c)) ≡ false
-  along a [] y p = rw (right (getD s a neutral), p) (o .irreflexive _)
+  along a [] y p = rw (right j (getD s a neutral), p) (o .irreflexive _)
   along a (e ∷ c) y p =
       let up = along (ends es e) c y (p .2) in
       let edge = kept e (p .0) in

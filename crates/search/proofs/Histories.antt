@@ -1,35 +1,24 @@
 -- What holds of the levels. Assumes nothing.
-use mathlib.Core.Path.{_≡_, refl, sym, ap, _∙_, subst}
-use mathlib.Core.Bool.{Bool, true, false}
-use mathlib.Core.List.{List, [], _∷_, map, _++_}
-use mathlib.Core.Logic.{⊎-elim, _≢_}
+use mathlib.Core.Path.{_≡_, refl, sym, _∙_, subst}
+use mathlib.Core.Bool.{Bool, false}
+use mathlib.Core.List.{List, [], _∷_, _++_}
+use mathlib.Core.Logic.{_≢_, ⊎-elim}
 use Prim.Native.Nat.{ℕ, _<_, _≤_, _+_, _*_}
 use native.Mathlib.Omega.{arith}
 use native.Mathlib.Nat.{mul-le-mul-right}
-use lib.ListN.{length, getD, set, replicate}
-use Rattle.std.proofs.shelf.Lists.{length-set, getD-set-same, getD-set-other, length-push}
+use lib.ListN.{length, getD, set}
+use Rattle.std.proofs.shelf.Tests.{cases-lt}
+use Rattle.std.proofs.shelf.Lists.{getD-past, getD-set-same, getD-set-other, length-push}
 use Rattle.std.specs.declared.option.Option.{Option}
 use Rattle.std.specs.declared.option.Option.the-variants.{Some, None}
 use Rattle.lengths.specs.Laws.{JoinLaws, OrderLaws}
 use Rattle.search.specs.declared.Edge.{Edge}
 use Rattle.search.specs.Terms.{begins, ends, lasts, Within, EdgeChain, total, LeastStarts}
-use Rattle.search.specs.Levels.{Came, Top, Level, History, first, later, Marked}
-use Rattle.search.proofs.Order.{asym, lt-le, le-lt, le-le, le-kept}
+use Rattle.search.specs.Levels.{Came, Level, History, first, later, Marked}
+use Rattle.search.proofs.Order.{right, le-le}
+use Rattle.search.proofs.Chains.{chain-join, total-join}
 use Rattle.search.proofs.Bounds.{least-along}
 use Rattle.search.proofs.Stepping.{risen}
-
--- a chain with one edge more
-pub chain-push : {L : Type 0} (es : List (Edge L)) (a : ℕ) (c : List ℕ) (e : ℕ) → e < length es → EdgeChain es a c (begins es e) → EdgeChain es a (c ++ (e ∷ [])) (ends es e)
-chain-push es a [] e h p = (h, sym p, refl)
-chain-push es a (f ∷ c) e h p = (p .0, p .1, chain-push es (ends es f) c e h (p .2))
-
-module _ {L : Type 0} {neutral : L} {joined : L → L → L} {opposite : L → L} {size : L → ℕ} (j : JoinLaws neutral joined opposite size) where
-  pub right : (x : L) → joined x neutral ≡ x
-  right x = j .comm x neutral ∙ j .left x
-
-  pub total-push : (es : List (Edge L)) (c : List ℕ) (e : ℕ) → total neutral joined es (c ++ (e ∷ [])) ≡ joined (total neutral joined es c) (lasts neutral es e)
-  total-push es [] e = right _ ∙ sym (j .left _)
-  total-push es (f ∷ c) e = ap (joined (lasts neutral es f)) (total-push es c e) ∙ sym (j .assoc _ _ _)
 
 module _ {L : Type 0} {neutral : L} {joined : L → L → L} {below : L → L → Bool} (es : List (Edge L)) (vias : List (List (Option ℕ))) where
   -- a row that is written past the levels
@@ -72,6 +61,28 @@ module _ {L : Type 0} {neutral : L} {joined : L → L → L} {opposite : L → L
         omega arith
 
   module _ (nodes : ℕ) (w : Within nodes es) (few : nodes ≤ 64) where
+    -- without nodes there are no edges
+    pub no-nodes : nodes ≡ 0 → (a : List L) → LeastStarts neutral joined below nodes es a
+    no-nodes e a = record {
+      kept = λ i h. absurd (let q = w i h .0 in omega arith);
+      floor = λ y h. absurd (omega arith);
+      reached = λ y h. absurd (omega arith);
+      least = λ other k f y h. absurd (omega arith);
+    }
+
+    -- no edge leads past the nodes
+    past-came : (a : List L) (y : ℕ) → nodes ≤ y → getD a y neutral ≡ neutral → (x : L) (v : Option ℕ) → Came neutral joined below es a y x v → x ≡ neutral
+    past-came a y h n x None p = p ∙ n
+    past-came a y h n x (Some e) p = absurd (let q = w e (p .0) .1 in let at = p .1 in omega arith)
+
+    past-below : {k : ℕ} {b : List L} → History neutral joined below es vias k b → (y : ℕ) → nodes ≤ y → y < 64 → getD b y neutral ≡ neutral
+    past-below (first e m z) y h s = z y s
+    past-below (later i a top e p l) y h s = past-came a y h (past-below p y h s) _ _ (l .came y s)
+
+    pub history-past : {k : ℕ} {b : List L} → History neutral joined below es vias k b → (y : ℕ) → nodes ≤ y → getD b y neutral ≡ neutral
+    history-past {k} {b} p y h =
+        ⊎-elim (λ s. past-below p y h s) (λ s. getD-past b y neutral (let m = history-many es vias p in omega arith)) (cases-lt y 64)
+
     abbrev pub Reached : ℕ → ℕ → L → Type 0
     Reached k y x = (a : ℕ) × (c : List ℕ) × (a < nodes) × (length c ≤ k) × EdgeChain es a c y × (total neutral joined es c ≡ x)
 
@@ -82,7 +93,7 @@ module _ {L : Type 0} {neutral : L} {joined : L → L → L} {opposite : L → L
     reached-came a k h y yh x (Some e) p =
         let q = h (begins es e) (w e (p .0) .0) in
         let m = q .3 in
-        (q .0, (q .1 ++ (e ∷ [])), q .2, (rw length-push (omega arith)), (subst (EdgeChain es (q .0) (q .1 ++ (e ∷ []))) (p .1) (chain-push es (q .0) (q .1) e (p .0) (q .4))), (total-push j es (q .1) e ∙ ap (λ t. joined t (lasts neutral es e)) (q .5) ∙ sym (p .2)))
+        (q .0, (q .1 ++ (e ∷ [])), q .2, (rw length-push (omega arith)), (subst (EdgeChain es (q .0) (q .1 ++ (e ∷ []))) (p .1) (chain-join es (q .1) (e ∷ []) (q .0) (begins es e) (ends es e) (q .4) (p .0, refl, refl))), (total-join j es (q .1) (e ∷ []) ∙ (λ t. joined (q .5 t) (right j (lasts neutral es e) t)) ∙ sym (p .2)))
 
     pub history-reached : {k : ℕ} {b : List L} → History neutral joined below es vias k b → (y : ℕ) → y < nodes → Reached k y (getD b y neutral)
     history-reached (first e m z) y h = (y, [], h, (omega arith), refl, sym (z y (omega arith)))

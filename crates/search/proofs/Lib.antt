@@ -1,6 +1,9 @@
 pub mod EdgeReads
 pub mod Order
+pub mod Chains
 pub mod Bounds
 pub mod Stepping
 pub mod Histories
 pub mod Walking
+pub mod Fronts
+pub mod Turning

@@ -2,7 +2,6 @@
 use mathlib.Core.Path.{_≡_, refl, sym, ap, _∙_, subst}
 use mathlib.Core.Bool.{Bool, true, false}
 use mathlib.Core.List.{List, [], _∷_, map}
-use mathlib.Core.Logic.{⊎-elim, _≢_}
 use Prim.Native.Nat.{ℕ, zero, suc, _<_, _≤_, _+_, _-_}
 use native.Mathlib.Omega.{arith}
 use lib.ListN.{length, getD, set, take, drop}
@@ -12,13 +11,12 @@ use Rattle.std.specs.declared.option.Option.{Option}
 use Rattle.std.specs.declared.option.Option.the-variants.{Some, None}
 use Rattle.lengths.specs.Laws.{JoinLaws, OrderLaws}
 use Rattle.search.specs.declared.Edge.{Edge}
-use Rattle.search.specs.Terms.{begins, ends, lasts, Within, EdgeChain, total, EdgeCircuit}
+use Rattle.search.specs.Terms.{begins, ends, lasts, Within, EdgeChain, total}
 use Rattle.handover.specs.Once.{Absent, Once}
-use Rattle.search.specs.Levels.{Came, Top, Level, History, first, later, Marked}
-use Rattle.search.proofs.Order.{asym, lt-le, le-lt, le-le, le-kept}
-use Rattle.search.proofs.Bounds.{shut-along}
+use Rattle.search.specs.Levels.{Came, Level, History, first, later, Marked, Rising}
+use Rattle.search.proofs.Order.{right, le-lt}
 use Rattle.search.proofs.Stepping.{risen}
-use Rattle.search.proofs.Histories.{right, came-by}
+use Rattle.search.proofs.Histories.{came-by}
 use Rattle.handover.proofs.Once.{Below, once-few}
 
 -- the edges of path from k to n
@@ -134,7 +132,7 @@ module _ {L : Type 0} {neutral : L} {joined : L → L → L} {opposite : L → L
       rw (j .assoc acc (lasts neutral es e) (total neutral joined es (take (suc m) c))) at q
 
   -- where the walk comes to a node again, what lies between is a circuit above neutral
-  pub walk-closes : (vias : List (List (Option ℕ))) (nodes k x : ℕ) (c : List ℕ) (m : ℕ) → Walk neutral joined below es vias nodes k x c → m < length c → ends es (getD c m 0) ≡ x → EdgeCircuit neutral joined below es (take (suc m) c)
+  pub walk-closes : (vias : List (List (Option ℕ))) (nodes k x : ℕ) (c : List ℕ) (m : ℕ) → Walk neutral joined below es vias nodes k x c → m < length c → ends es (getD c m 0) ≡ x → Rising neutral joined below es (take (suc m) c)
   walk-closes vias nodes k x c m p h e =
       let round = subst (EdgeChain es x (take (suc m) c)) e (chain-take es x c (p .last) m (p .chain) h) in
       let up = cancel (getD (p .b) x neutral) (total neutral joined es (take (suc m) c)) (let q = above-take (p .b) _ c m (p .above) h in rw e at q) in
@@ -142,7 +140,6 @@ module _ {L : Type 0} {neutral : L} {joined : L → L → L} {opposite : L → L
         closed = (x, round);
         once = once-take (ends es) (suc m) c (p .once);
         above = up;
-        shut = λ other kept. shut-along j o es other kept x (take (suc m) c) round up;
       }
 
   above-lower : (nodes : ℕ) → Within nodes es → (a b : List L) → ((y : ℕ) → y < nodes → below (getD b y neutral) (getD a y neutral) ≡ false) → (acc : L) (x : ℕ) (c : List ℕ) (last : ℕ) → EdgeChain es x c last → Above neutral joined below es b acc c → Above neutral joined below es a acc c
@@ -234,7 +231,7 @@ module _ {L : Type 0} {neutral : L} {joined : L → L → L} {opposite : L → L
         let g = getD-seg path′ (k - 1) nodes (m + (k - 1)) i-low i-high in
         h (m + (k - 1)) i-low i-high (ap (ends es) (sym g ∙ ap (λ t. getD (seg path′ (k - 1) nodes) t 0) back-m) ∙ eq))
 
-    pub closes-at : (i : ℕ) → k - 1 ≤ i → i < nodes → ends es (getD path′ i 0) ≡ begins es e → EdgeCircuit neutral joined below es (take (i + 1 - (k - 1)) (drop (k - 1) path′))
+    pub closes-at : (i : ℕ) → k - 1 ≤ i → i < nodes → ends es (getD path′ i 0) ≡ begins es e → Rising neutral joined below es (take (i + 1 - (k - 1)) (drop (k - 1) path′))
     closes-at i a b eq =
         rw (take-seg path′ (k - 1) nodes i a b)
         (walk-closes j o es vias nodes (k - 1) (begins es e) (seg path′ (k - 1) nodes) (i - (k - 1)) next-walk (in-seg i a b) (ap (ends es) (getD-seg path′ (k - 1) nodes i a b) ∙ eq))

@@ -21,8 +21,8 @@ lasts neutral es i = getD (map (λ e. e .length) es) i neutral
 abbrev pub Within : {L : Type 0} → ℕ → List (Edge L) → Type 0
 Within nodes es = (i : ℕ) → i < length es → (begins es i < nodes) × (ends es i < nodes)
 
--- The search may be asked: at most 64 nodes, every edge joins two of them, and 64 lengths of the size of any one can be joined.
-pub record Ready {L : Type 0} (neutral : L) (size : L → ℕ) (largest nodes : ℕ) (es : List (Edge L)) : Type 0 where
+-- The edges can be searched: at most 64 nodes, every edge joins two of them, and 64 lengths of the size of any one can be joined.
+pub record Searchable {L : Type 0} (neutral : L) (size : L → ℕ) (largest nodes : ℕ) (es : List (Edge L)) : Type 0 where
   pub few : nodes ≤ 64
   pub inside : Within nodes es
   pub room : (i : ℕ) → i < length es → 64 * size (lasts neutral es i) ≤ largest
@@ -45,16 +45,17 @@ EdgesKept neutral joined below es starts = (i : ℕ) → i < length es → below
 abbrev pub Floored : {L : Type 0} → L → (L → L → Bool) → ℕ → List L → Type 0
 Floored neutral below nodes starts = (y : ℕ) → y < nodes → below (getD starts y neutral) neutral ≡ false
 
--- Starts that keep every edge and are at least neutral, each the joined length of a chain of at most 63 edges that ends there: so none can be less.
+-- The least starts: they keep every edge and are at least neutral, each is the joined length of a chain of at most 63 edges that ends there, and no others that keep every edge and are at least neutral have a lower start.
 pub record LeastStarts {L : Type 0} (neutral : L) (joined : L → L → L) (below : L → L → Bool) (nodes : ℕ) (es : List (Edge L)) (starts : List L) : Type 0 where
   pub kept : EdgesKept neutral joined below es starts
   pub floor : Floored neutral below nodes starts
   pub reached : (y : ℕ) → y < nodes → (a : ℕ) × (c : List ℕ) × (a < nodes) × (length c ≤ 63) × EdgeChain es a c y × (total neutral joined es c ≡ getD starts y neutral)
   pub least : (other : List L) → EdgesKept neutral joined below es other → Floored neutral below nodes other → (y : ℕ) → y < nodes → below (getD other y neutral) (getD starts y neutral) ≡ false
 
--- A closed chain of edges that ends at no node twice, and whose joined length is above neutral: so no starts keep every edge.
+-- A circuit above neutral: a closed chain of edges from the lowest of its nodes, which ends at no node twice, and whose joined length is above neutral; so no starts keep every edge.
 pub record EdgeCircuit {L : Type 0} (neutral : L) (joined : L → L → L) (below : L → L → Bool) (es : List (Edge L)) (c : List ℕ) : Type 0 where
   pub closed : (a : ℕ) × EdgeChain es a c a
+  pub lowest : (t : ℕ) → t < length c → closed .0 ≤ begins es (getD c t 0)
   pub once : Once (map (ends es) c)
   pub above : below neutral (total neutral joined es c) ≡ true
   pub shut : (other : List L) → EdgesKept neutral joined below es other → ⊥

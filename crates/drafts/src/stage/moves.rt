@@ -45,8 +45,8 @@ impl Durations {
         ensures { λ r. ⌜ LeftDurations self r ⌝ }
     {
         if self.held < self.sizes.stations {
-            let held = self.held;
-            return Err((self, DraftFault::Missing(held)));
+            let durations = self.held;
+            return Err((self, DraftFault::Missing(durations)));
         }
         let Durations { sizes, held: _ } = self;
         Ok(Ends { sizes, held: 0 })
@@ -59,8 +59,8 @@ impl Ends {
         ensures { λ r. ⌜ LeftEnds self r ⌝ }
     {
         if self.held < self.sizes.links {
-            let held = self.held;
-            return Err((self, DraftFault::Missing(held)));
+            let ends = self.held;
+            return Err((self, DraftFault::Missing(ends)));
         }
         let Ends { sizes, held: _ } = self;
         Ok(Terms { sizes, held: 0 })
@@ -73,8 +73,8 @@ impl Terms {
         ensures { λ r. ⌜ LeftTerms self r ⌝ }
     {
         if self.held < self.sizes.links {
-            let held = self.held;
-            return Err((self, DraftFault::Missing(held)));
+            let terms = self.held;
+            return Err((self, DraftFault::Missing(terms)));
         }
         let Terms { sizes, held: _ } = self;
         Ok(Filled { sizes })

@@ -1,0 +1,7 @@
+pub mod Refusals
+pub mod Offers
+pub mod Loading
+pub mod Showing
+pub mod Surveys
+pub mod TextLoading
+pub mod Planning

@@ -1,0 +1,4 @@
+pub mod Pasted
+pub mod Bytes
+pub mod Steps
+pub mod Reported

@@ -1,0 +1,4 @@
+pub mod Edges
+pub mod Listing
+pub mod Timing
+pub mod Pacing
