@@ -18,7 +18,7 @@ use Rattle.std.specs.declared.result.Result.{Result}
 use Rattle.std.specs.declared.result.Result.the-variants.{Ok, Err}
 use Rattle.drafts.specs.declared.fault.DraftFault.{DraftFault}
 use Rattle.drafts.specs.declared.fault.DraftFault.the-variants.{Range}
-use Rattle.drafts.specs.Faults.{outside, judged, placed, range-fault, station-fault, fault-if, or-else}
+use Rattle.drafts.specs.Faults.{outside, judged, placed, range-fault, station-fault, fault-if}
 use Rattle.forms.specs.Marks.{is-digit, digit-first, value-on, Lexed, none, led, number, number-at}
 use Rattle.forms.specs.Form as form
 use Rattle.texts.specs.declared.fault.TextFault.{TextFault}
@@ -61,11 +61,6 @@ module _ (x y : Reader) (t : List ℕ) (same : now (x .text) ≡ t) (h : x .at <
       let f : number-at (rest x) ≡ number (value-on (getD t (x .at) 0 - 48) (drop (x .at + 1) t)) (1 + leading is-digit (drop (x .at + 1) t)) = rw here (number-more (getD t (x .at) 0) (drop (x .at + 1) t) y1 z) in
       subst (λ o. Numbered o x (Ok n) y) (sym f) (ap Ok (omega (arith, q, value)), omega (arith, p, place)))
       (cases-eq (getD t (x .at) 0) 48)
-
--- where there is no first fault, there is neither
-pub or-none : (a b : Option DraftFault) → or-else a b ≡ None → (a ≡ None) × (b ≡ None)
-or-none None b e = (refl, e)
-or-none (Some f) b e = let z : _≡_ {A = ℕ} 0 1 = cc in absurd (omega arith)
 
 -- a number of any size and its first 64 bits have the same fault, and one with no fault is below
 pub record Bounds (fault : ℕ → Option DraftFault) : Type 0 where

@@ -26,7 +26,8 @@ use Rattle.texts.specs.NetText.{room-fault}
 use Rattle.texts.specs.NetForm.{NetForm, asked, capacity-entry}
 use Rattle.texts.specs.Reading.{rest, Halts, Numbered, Placed, ReadsCapacity}
 use Rattle.texts.proofs.Steps.{run-capacity-dash, run-capacity-number}
-use Rattle.texts.proofs.Asked.{or-none, Bounds, range-bounds, Judges, number-fine, number-refused, number-out, number-err}
+use Rattle.drafts.proofs.Firsts.{or-none}
+use Rattle.texts.proofs.Asked.{Bounds, range-bounds, Judges, number-fine, number-refused, number-out, number-err}
 
 first-some : (f : DraftFault) (a b : Option DraftFault) → a ≡ Some f → or-else a b ≡ Some f
 first-some f a b e = rw e

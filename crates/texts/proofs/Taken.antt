@@ -33,7 +33,7 @@ use Rattle.texts.specs.NetForm.{NetForm}
 use Rattle.texts.specs.Reading.{Goes, Halts, Found, Placed}
 use Rattle.texts.specs.Rows.{ReadsRow}
 use Rattle.texts.proofs.Chains.{leave}
-use Rattle.texts.proofs.Asked.{or-none}
+use Rattle.drafts.proofs.Firsts.{or-none}
 
 -- the exit of a `?`
 pub row-left : {X : Type 0} (form : ℕ → (X → NetForm) → NetForm) (x : Reader) (before : List X) (r : Result (Unit {0}) TextFault) (y : Reader) (after : List X) (e : TextFault)
