@@ -26,6 +26,7 @@ use Rattle.texts.specs.NetText.{room-fault}
 use Rattle.texts.specs.NetForm.{NetForm, asked, capacity-entry}
 use Rattle.texts.specs.Reading.{rest, Halts, Numbered, Placed, ReadsCapacity}
 use Rattle.texts.proofs.Steps.{run-capacity-dash, run-capacity-number}
+use Rattle.drafts.proofs.Firsts.{or-none}
 use Rattle.texts.proofs.Asked.{Bounds, range-bounds, Judges, number-fine, number-refused, number-out, number-err}
 
 first-some : (f : DraftFault) (a b : Option DraftFault) → a ≡ Some f → or-else a b ≡ Some f
@@ -33,10 +34,6 @@ first-some f a b e = rw e
 
 then-second : (a b : Option DraftFault) → a ≡ None → or-else a b ≡ b
 then-second a b e = rw e
-
-none-first : (a b : Option DraftFault) → or-else a b ≡ None → a ≡ None
-none-first None b e = refl
-none-first (Some f) b e = e
 
 room-bounds : (link stock : ℕ) → Bounds (room-fault link stock)
 room-bounds link stock =
@@ -49,7 +46,7 @@ room-bounds link stock =
           let b : range-fault 4 0 10_000 (min v (2 ^ 64 - 1)) ≡ range-fault 4 0 10_000 20_000 = grind (arith, tells) in
           first-some _ _ (below-stock link stock (Some v)) a ∙ sym (first-some _ _ (below-stock link stock (Some (min v (2 ^ 64 - 1)))) b))
           (cases-lt v (2 ^ 64 - 1));
-      small = λ v e. range-bounds 4 0 10_000 (omega arith) .small v (none-first _ _ e);
+      small = λ v e. range-bounds 4 0 10_000 (omega arith) .small v (or-none _ _ e .0);
     }
 
 -- the dash

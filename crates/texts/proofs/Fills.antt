@@ -17,7 +17,7 @@ use Rattle.texts.specs.Faults.{Worded}
 use Rattle.texts.specs.NetText.{Entries}
 use Rattle.texts.specs.NetForm.{net-form}
 use Rattle.texts.specs.Reading.{rest, Started, Goes, Halts}
-use Rattle.texts.specs.Rows.{no-durations, no-ends, no-terms}
+use Rattle.texts.specs.Rows.{without-durations, without-ends, without-terms}
 use Rattle.texts.specs.Outcomes.{entries-of, BlankBehind, Fills}
 use Rattle.texts.proofs.Chains.{goes-start}
 
@@ -27,7 +27,7 @@ fills-err x t s tables r e p h =
 
 -- the sizes, and the tables from line to line
 module _ (s : NetSizes) (t0 t1 t2 t3 : Tables) (b : t0 ≡ blank)
-    (e1 : no-durations t1 ≡ no-durations t0) (e2 : no-ends t2 ≡ no-ends t1) (e3 : no-terms t3 ≡ no-terms t2)
+    (e1 : without-durations t1 ≡ without-durations t0) (e2 : without-ends t2 ≡ without-ends t1) (e3 : without-terms t3 ≡ without-terms t2)
     (d1 : drop (s .stations) (t1 .durations) ≡ drop (s .stations) (t0 .durations))
     (d2 : drop (s .links) (t2 .ends) ≡ drop (s .links) (t1 .ends))
     (d3 : drop (s .links) (t3 .terms) ≡ drop (s .links) (t2 .terms)) where

@@ -33,6 +33,7 @@ use Rattle.texts.specs.NetForm.{NetForm}
 use Rattle.texts.specs.Reading.{Goes, Halts, Found, Placed}
 use Rattle.texts.specs.Rows.{ReadsRow}
 use Rattle.texts.proofs.Chains.{leave}
+use Rattle.drafts.proofs.Firsts.{or-none}
 
 -- the exit of a `?`
 pub row-left : {X : Type 0} (form : ℕ → (X → NetForm) → NetForm) (x : Reader) (before : List X) (r : Result (Unit {0}) TextFault) (y : Reader) (after : List X) (e : TextFault)
@@ -81,17 +82,13 @@ took-ends s s′ t t′ d (Ok u) r b p h q l f = (q, h .1, h .2, h .3)
 took-ends s s′ t t′ d (Err e) r b p h q l f =
     absurd (none-some _ (ap (λ o. or-else o (ends-fault (s .sizes .stations) d)) (not-past (s .sizes .links) (s .held) l) ∙ f) (h .0))
 
-or-none : (a b : Option DraftFault) → or-else a b ≡ None → b ≡ None
-or-none None b e = e
-or-none (Some f) b e = let z : _≡_ {A = ℕ} 0 1 = cc in absurd (omega arith)
-
 -- of terms in their ranges it says only whether the capacity is below the stock
 pub took-terms : (s s′ : Terms) (t t′ : Tables) (d : LinkTerms) (a : Result (Unit {0}) DraftFault) (r : Result (Unit {0}) TextFault) (b : List ℕ) (p : ℕ)
     → TookTerms s t d a s′ t′ → Placed b p a r → s .held < s .sizes .links → terms-fault d ≡ None
     → ((r ≡ Ok tt) × (room-fault (s .held) d ≡ None) × (s′ .sizes ≡ s .sizes) × (s′ .held ≡ s .held + 1) × (t′ ≡ record { durations = t .durations; ends = t .ends; terms = set (t .terms) (s .held) d }))
     ⊎ ((f : DraftFault) × (e : TextFault) × (r ≡ Err e) × (room-fault (s .held) d ≡ Some f) × (said e ≡ refused f p) × Worded b e)
 took-terms s s′ t t′ d (Ok u) r b p h q l f =
-    inl (q, sym (ap (λ o. or-else o (room-fault (s .held) d)) f) ∙ or-none (past (s .sizes .links) (s .held)) (or-else (terms-fault d) (room-fault (s .held) d)) (h .0), h .1, h .2, h .3)
+    inl (q, sym (ap (λ o. or-else o (room-fault (s .held) d)) f) ∙ or-none (past (s .sizes .links) (s .held)) (or-else (terms-fault d) (room-fault (s .held) d)) (h .0) .1, h .1, h .2, h .3)
 took-terms s s′ t t′ d (Err g) (Ok u) b p h q l f = absurd q
 took-terms s s′ t t′ d (Err g) (Err e) b p h q l f =
     inr (g, e, refl, sym (ap (λ o. or-else o (or-else (terms-fault d) (room-fault (s .held) d))) (not-past (s .sizes .links) (s .held) l) ∙ ap (λ o. or-else o (room-fault (s .held) d)) f) ∙ h .0, q .0, q .1)

@@ -15,11 +15,11 @@ ReadsRow {X} form x before r y after =
     (n : ℕ) (k : List X → NetForm) → Found x (rows form (suc n) before k) r (λ _. rows form n after k) y
 
 -- the tables without one of their columns
-abbrev pub no-durations : Tables → Tables
-no-durations t = record { durations = []; ends = t .ends; terms = t .terms }
+abbrev pub without-durations : Tables → Tables
+without-durations t = record { durations = []; ends = t .ends; terms = t .terms }
 
-abbrev pub no-ends : Tables → Tables
-no-ends t = record { durations = t .durations; ends = []; terms = t .terms }
+abbrev pub without-ends : Tables → Tables
+without-ends t = record { durations = t .durations; ends = []; terms = t .terms }
 
-abbrev pub no-terms : Tables → Tables
-no-terms t = record { durations = t .durations; ends = t .ends; terms = [] }
+abbrev pub without-terms : Tables → Tables
+without-terms t = record { durations = t .durations; ends = t .ends; terms = [] }

@@ -9,7 +9,7 @@ ghost use Rattle.nets.specs.declared.LinkTerms.{LinkTerms};
 ghost use Rattle.drafts.specs.declared.stage.NetSizes.{NetSizes};
 ghost use Rattle.drafts.specs.declared.tables.Tables.{Tables};
 ghost use Rattle.texts.specs.NetForm.{NetForm, duration-entry, ends-entry, terms-entry};
-ghost use Rattle.texts.specs.Rows.{ReadsRow, no-durations, no-ends, no-terms};
+ghost use Rattle.texts.specs.Rows.{ReadsRow, without-durations, without-ends, without-terms};
 use crate::fault::TextFault;
 use crate::lexer::Mark;
 use crate::reader::Reader;
@@ -66,7 +66,7 @@ pub(crate) impl Rows for Durations as DurationRows {
 
     ghost column = { λ t. t .durations };
 
-    ghost others = { no-durations };
+    ghost others = { without-durations };
 
     fn row<'a>(
         &mut self,
@@ -94,7 +94,7 @@ pub(crate) impl Rows for Ends as EndsRows {
 
     ghost column = { λ t. t .ends };
 
-    ghost others = { no-ends };
+    ghost others = { without-ends };
 
     fn row<'a>(
         &mut self,
@@ -124,7 +124,7 @@ pub(crate) impl Rows for Terms as TermsRows {
 
     ghost column = { λ t. t .terms };
 
-    ghost others = { no-terms };
+    ghost others = { without-terms };
 
     fn row<'a>(
         &mut self,

@@ -4,7 +4,7 @@ use mathlib.Core.List.{List, [], _∷_, _++_}
 use native.Mathlib.Omega.{arith}
 use lib.ListN.{length, take, set}
 use Rattle.std.proofs.shelf.Results.{err-from-errBy, made-from-err}
-use Rattle.texts.specs.Rows.{no-durations}
+use Rattle.texts.specs.Rows.{without-durations}
 use Rattle.forms.specs.Lines.{rows}
 use Rattle.texts.specs.NetForm.{NetForm, duration-entry}
 use Rattle.texts.proofs.Chains.{and-on, and-halt}
@@ -52,5 +52,5 @@ returns c =
     record {
       reads = row-taken form (c .args .reader .now) before (c .placed .result) (c .duration .last .self) _ d (took .0) (column-front (t .durations) _ (s .held) _ d (took .2) column (c .pre .wide))
           (λ n k. and-on (c .in-Continue-mark .ensures tt (λ _. duration-entry (next n before k))) (c .in-Continue-duration .ensures tt .reads (next n before k)));
-      kept = made-ok (c .placed .result) tt _ (took .0) (took .2, took .1, ap no-durations kept, column-behind (t .durations) _ (s .held) _ d (took .2) column, column-long (t .durations) _ (s .held) _ d (took .2) column);
+      kept = made-ok (c .placed .result) tt _ (took .0) (took .2, took .1, ap without-durations kept, column-behind (t .durations) _ (s .held) _ d (took .2) column, column-long (t .durations) _ (s .held) _ d (took .2) column);
     }

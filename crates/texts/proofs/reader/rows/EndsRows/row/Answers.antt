@@ -10,7 +10,7 @@ use Rattle.forms.specs.Form.{mark}
 use Rattle.forms.specs.Lines.{rows}
 use Rattle.texts.proofs.Chains.{and-on, and-halt}
 use Rattle.texts.specs.NetForm.{NetForm, asked, ends-entry}
-use Rattle.texts.specs.Rows.{no-ends}
+use Rattle.texts.specs.Rows.{without-ends}
 use Rattle.texts.proofs.Taken.{row-left, row-taken, made-ok, column-front, column-behind, column-long, took-ends, ends-fine}
 use Rattle.texts.proofs.reader.rows.EndsRows.row.Needs as need
 
@@ -88,5 +88,5 @@ returns c =
       reads = row-taken form (c .args .reader .now) before (c .placed .result) (c .station-2 .last .self) _ e (took .0) (column-front (t .ends) _ (s .held) _ e (took .2) column (c .pre .wide))
           (λ n k. and-on (c .in-Continue-mark .ensures tt (λ _. ends-entry m (next m n before k))) (and-on (c .in-Continue-from .ensures tt .reads (λ i. mark 62 (second m (next m n before k) i))) (and-on (c .in-Continue-mark-2 .ensures tt (λ _. second m (next m n before k) (c .in-Continue-from .from))) (c .in-Continue-to .ensures tt .reads (λ j. next m n before k (record { from = c .in-Continue-from .from; to = j }))))));
       kept = made-ok (c .placed .result) tt _ (took .0)
-          (took .2, took .1, ap no-ends (took .3), column-behind (t .ends) _ (s .held) _ e (took .2) column, column-long (t .ends) _ (s .held) _ e (took .2) column);
+          (took .2, took .1, ap without-ends (took .3), column-behind (t .ends) _ (s .held) _ e (took .2) column, column-long (t .ends) _ (s .held) _ e (took .2) column);
     }

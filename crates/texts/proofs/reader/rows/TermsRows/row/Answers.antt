@@ -17,7 +17,7 @@ use Rattle.texts.proofs.Chains.{and-on, and-halt}
 use Rattle.texts.specs.Faults.{Worded}
 use Rattle.texts.specs.NetForm.{NetForm, asked, terms-entry, capacity-entry}
 use Rattle.texts.specs.Reading.{Halts}
-use Rattle.texts.specs.Rows.{no-terms}
+use Rattle.texts.specs.Rows.{without-terms}
 use Rattle.texts.proofs.Taken.{row-left, row-taken, row-halted, made-ok, made-err, column-front, column-behind, column-long, took-terms, terms-fine}
 use Rattle.texts.proofs.reader.rows.TermsRows.row.Needs as need
 
@@ -151,7 +151,7 @@ returns c =
       reads = row-taken form x before r (c .capacity .last .self) _ e (took .0) (column-front (t .terms) _ (s .held) _ e (took .3) column (c .pre .wide))
           (λ n k. and-on (c .in-Continue-mark .ensures tt (λ _. terms-entry i (next n before k))) (and-on (c .in-Continue-produced .ensures tt .reads (λ w. mark 58 (consumeds i (next n before k) w))) (and-on (c .in-Continue-mark-2 .ensures tt (λ _. consumeds i (next n before k) (c .in-Continue-produced .produced))) (and-on (c .in-Continue-consumed .ensures tt .reads (λ v. mark 58 (stocks i (next n before k) (c .in-Continue-produced .produced) v))) (and-on (c .in-Continue-mark-3 .ensures tt (λ _. stocks i (next n before k) (c .in-Continue-produced .produced) (c .in-Continue-consumed .consumed))) (and-on (c .in-Continue-stock .ensures tt .reads (λ u. mark 58 (capacities i (next n before k) (c .in-Continue-produced .produced) (c .in-Continue-consumed .consumed) u))) (and-on (c .in-Continue-mark-4 .ensures tt (λ _. capacities i (next n before k) (c .in-Continue-produced .produced) (c .in-Continue-consumed .consumed) (c .in-Continue-stock .stock))) (c .in-Continue-capacity .ensures tt .fits i (c .in-Continue-stock .stock) (whole (next n before k) (c .in-Continue-produced .produced) (c .in-Continue-consumed .consumed) (c .in-Continue-stock .stock)) fits))))))));
       kept = made-ok r tt _ (took .0)
-          (took .3, took .2, ap no-terms (took .4), column-behind (t .terms) _ (s .held) _ e (took .3) column, column-long (t .terms) _ (s .held) _ e (took .3) column);
+          (took .3, took .2, ap without-terms (took .4), column-behind (t .terms) _ (s .held) _ e (took .3) column, column-long (t .terms) _ (s .held) _ e (took .3) column);
     })
     (λ took.
     let f = took .0 in
