@@ -77,7 +77,12 @@ fn show_plan(rt: &LibcRuntime, number: u64, text: &[u8]) -> Result<(), AnyError>
     Ok(())
 }
 
-fn show_refusal(rt: &LibcRuntime, number: u64, refusal: u8, place: Option<u64>) -> Result<(), AnyError> {
+fn show_refusal(
+    rt: &LibcRuntime,
+    number: u64,
+    refusal: u8,
+    place: Option<u64>,
+) -> Result<(), AnyError> {
     match place {
         Some(p) => println!(rt, "{number}: refused {refusal} {p}")?,
         None => println!(rt, "{number}: refused {refusal}")?,
