@@ -1,12 +1,14 @@
 #!/usr/bin/env python3
 """Writes the cases of the test program `cases` and their expected output, which the second planner (peer.py) computes.
 
-    tests/make_cases.py        writes crates/cases/stdin and crates/cases/stdout
+    tests/make_cases.py          writes crates/cases/stdin and crates/cases/stdout
+    tests/make_cases.py large    prints a large net (examples/large.net)
 
 Cases that name their output were worked out by hand; the second planner has to agree with them.
 """
 import os
 import random
+import sys
 
 import peer
 
@@ -127,9 +129,43 @@ def mechanical():
     yield "# 16,384 digits"
     yield "plan", b"7" * 16_384, None
     yield "plan", b"net " + b"7" * 16_380, None
+    yield "# a large net"
+    with open(os.path.join(ROOT, "examples/large.net"), "rb") as f:
+        yield "plan", f.read(), None
     yield "# small nets at random"
     for _ in range(400):
         yield rng.choice(["plan", "survey"]), small_net(rng), None
+
+
+def net_text(pace, durations, links, terms):
+    parts = (["net", len(durations), len(links), *pace], ["dur", *durations], ["ends", *(f"{i}>{j}" for i, j in links)],
+             ["terms", *terms])
+    return "".join(" ".join(map(str, p)) + "\n" for p in parts).encode()
+
+
+def large_net(rng):
+    """64 stations and 128 links, with a timetable."""
+    n, m = 64, 128
+    z = [rng.choice([1, 2, 3, 4, 6, 8, 12]) for _ in range(n)]
+    links = [(rng.randrange(max(0, j - 6), j), j) for j in range(1, n)]
+    while len(links) < m:
+        links.append((rng.randrange(n), rng.randrange(n)))
+    terms = []
+    for i, j in links:
+        f = rng.randrange(1, 9)
+        w, v = z[i] * f, z[j] * f
+        back = i >= j
+        u = rng.randrange(20 * max(w, v), 40 * max(w, v)) if back else rng.randrange(0, 2 * max(w, v))
+        c = "-" if rng.randrange(3) else u + 60 * max(w, v)
+        terms.append(f"{w}:{v}:{u}:{c}")
+    durations = [rng.randrange(1, 300) for _ in range(n)]
+    for a in range(100, 1_000_000, 50):
+        text = net_text((a, 2), durations, links, terms)
+        try:
+            if peer.plan(text).startswith("timetable"):
+                return text
+        except ValueError:
+            pass  # no timetable at this pace
 
 
 def small_net(rng):
@@ -153,8 +189,7 @@ def small_net(rng):
         terms.append(f"{w}:{v}:{u}:{c}")
     durations = [rng.randrange(1, 30) for _ in range(n)]
     pace = (rng.randrange(1, 60), rng.randrange(1, 4))
-    parts = ["net", n, len(links), *pace], ["dur", *durations], ["ends", *(f"{i}>{j}" for i, j in links)], ["terms", *terms]
-    return "".join(" ".join(map(str, p)) + "\n" for p in parts).encode()
+    return net_text(pace, durations, links, terms)
 
 
 def main():
@@ -180,4 +215,7 @@ def main():
 
 
 if __name__ == "__main__":
-    main()
+    if sys.argv[1:] == ["large"]:
+        sys.stdout.buffer.write(large_net(random.Random(64)))
+    else:
+        main()

@@ -187,6 +187,8 @@ def plan(data):
                 break
         if moved:
             length = {id(s): l for s, l in lengths}
+            if n > 12:
+                raise ValueError("too large to list all circuits")
             above = [c for c in circuits(n, all_steps) if sum(length[id(s)] for s in c) > 0]
             if len(above) != 1:
                 raise ValueError(f"{len(above)} circuits are above zero, so which one is told is left open")
