@@ -13,6 +13,7 @@ use Rattle.handover.proofs.Gcd.{gcd-is}
 use Rattle.rules.specs.Net.{Link, stations}
 use Rattle.rules.specs.Rates.{stay, on, Joined, CutOff, Rated, with-rates, NoRates}
 use Rattle.rates.specs.Reaching.{number, Balance}
+use Rattle.rules.proofs.Examples as examples
 use Rattle.rates.specs.Theorems.{tie, net, two, row, ring, assembly, Worked}
 use Rattle.rates.proofs.Links.{led-reached}
 use Rattle.rates.proofs.Tables.{none-some, some-same}
@@ -73,6 +74,7 @@ two-cut = record {
 
 pub worked : Worked
 worked = record {
+  timetables = examples.worked;
   two-rates = rated 2 two (2 ∷ 3 ∷ []) refl ((lit≤ tt, lit≤ tt), ((lit≤ tt, lit≤ tt), tt)) (refl, tt) refl;
   row-rates = rated 3 (row 10) (1 ∷ 1_000 ∷ 10_000 ∷ []) refl ((lit≤ tt, lit≤ tt), ((lit≤ tt, lit≤ tt), ((lit≤ tt, lit≤ tt), tt))) (refl, (refl, tt)) refl;
   row-none = row-none;

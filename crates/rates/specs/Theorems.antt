@@ -6,6 +6,7 @@ use lib.ListN.{replicate}
 use Rattle.std.specs.declared.option.Option.the-variants.{Some, None}
 use Rattle.rules.specs.Net.{Link, Net}
 use Rattle.rules.specs.Ranges.{Checked}
+use Rattle.rules.specs.Examples as examples
 use Rattle.rules.specs.Rates.{Joined, CutOff, Rated, with-rates, NoRates}
 
 -- A joined net has at most one list of rates.
@@ -28,11 +29,11 @@ net n ls = record { durations = replicate n 1; rates = []; A = 1; B = 1; links =
 abbrev pub two : List Link
 two = tie 0 1 4 6 ∷ []
 
--- Three stations in a row: for one firing of the first the second has 1,000, and for one of the second the third has x.
+-- Three stations in a row: the second fires once for 1,000 firings of the first, and the third once for x of the second.
 abbrev pub row : ℕ → List Link
 row x = tie 0 1 1 1_000 ∷ tie 1 2 1 x ∷ []
 
--- Two stations, each of which would fire twice as often as the other.
+-- Two stations, each of which would fire half as often as the other.
 abbrev pub ring : List Link
 ring = tie 0 1 1 2 ∷ tie 1 0 1 2 ∷ []
 
@@ -40,7 +41,9 @@ ring = tie 0 1 1 2 ∷ tie 1 0 1 2 ∷ []
 abbrev pub assembly : List Link
 assembly = tie 0 2 1 2 ∷ tie 1 2 1 3 ∷ tie 3 0 2 1 ∷ tie 2 3 1 1 ∷ tie 3 1 3 1 ∷ tie 3 4 1 3 ∷ tie 4 0 6 1 ∷ tie 4 1 9 1 ∷ []
 
+-- The worked cases, together: starts, periods, stock and taken space, circuits with their lengths, fastest paces, and rates.
 pub record Worked : Type 0 where
+  pub timetables : examples.Worked
   pub two-rates : Rated (with-rates (net 2 two) (2 ∷ 3 ∷ []))
   pub row-rates : Rated (with-rates (net 3 (row 10)) (1 ∷ 1_000 ∷ 10_000 ∷ []))
   pub row-none : NoRates (net 3 (row 11))

@@ -1,7 +1,7 @@
 // Whether the stations of a checked net are joined, and the rates of a joined one, which make it a sound net.
 ghost use mathlib.Core.Path.{_≡_};
 ghost use Prim.Native.Nat.{_*_, _<_, _≤_};
-ghost use lib.ListN.{take};
+ghost use lib.ListN.{take, set, replicate};
 ghost use Rattle.std.specs.Orderings.{Decides};
 ghost use Rattle.rules.specs.Net.{stations};
 ghost use Rattle.rules.specs.Rates.{Joined, Rated, with-rates};
@@ -85,12 +85,20 @@ fn lowest(stations: u8, z: &[u16; 64]) -> Option<u8>
     None
 }
 
+// Where reaching begins: station 0 has the number 1, and no other is reached.
+fn first_number() -> [u16; 64]
+    ensures { λ r. ⌜ r ≡ set (replicate 64 0) 0 1 ⌝ }
+{
+    let mut z = [0; 64];
+    z[0] = 1;
+    z
+}
+
 // The lowest station that links, followed either way, do not lead to from station 0; none where the net is joined.
 fn cut_off(checked: &CheckedNet) -> Option<u8>
     ensures { λ r. ⌜ CutOffOr (of-net (now (checked .entry) .net)) r ⌝ }
 {
-    let mut z = [0; 64];
-    z[0] = 1;
+    let mut z = first_number();
     while let Some(lead) = onward(checked, &z) {
         z[lead.to as usize] = 1;
     }
@@ -164,8 +172,7 @@ fn numbers(checked: &CheckedNet) -> Option<[u16; 64]>
     requires { ⌜ Joined (of-net (now checked .net)) ⌝ }
     ensures { λ r. ⌜ Numbers (of-net (now (checked .entry) .net)) r ⌝ }
 {
-    let mut z = [0; 64];
-    z[0] = 1;
+    let mut z = first_number();
     while let Some(lead) = onward(checked, &z) {
         if !reach(&mut z, lead) {
             return None;

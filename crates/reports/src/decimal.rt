@@ -46,6 +46,14 @@ fn digit_count(n: u64) -> usize
     if n / power(18) < 10 { 19 } else { 20 }
 }
 
+// The byte of a digit.
+fn digit(d: u64) -> u8
+    requires { ⌜ d < 10 ⌝ }
+    ensures { λ r. ⌜ r ≡ 48 + d ⌝ }
+{
+    b'0' + d as u8
+}
+
 // Writes the number at `at`, and says where it ends.
 pub(crate) fn put_number(out: &mut [u8], at: usize, n: u64) -> usize
     requires { ⌜ at + length (decimal n) ≤ length (now out) ⌝ }
@@ -56,10 +64,10 @@ pub(crate) fn put_number(out: &mut [u8], at: usize, n: u64) -> usize
     let mut m = n;
     while m >= 10 {
         k -= 1;
-        out[at + k] = b'0' + (m % 10) as u8;
+        out[at + k] = digit(m % 10);
         m /= 10;
     }
-    out[at] = b'0' + m as u8;
+    out[at] = digit(m);
     at + w
 }
 

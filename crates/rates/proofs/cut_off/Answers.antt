@@ -1,7 +1,7 @@
 use mathlib.Core.Path.{sym, subst}
 use Rattle.nets.specs.Views.{of-net}
 use Rattle.nets.proofs.Alone.{ranged}
-use Rattle.rates.specs.Reaching.{Lowest}
+use Rattle.rates.specs.Reaching.{Led, Lowest}
 use Rattle.rates.proofs.Starts.{led-first}
 use Rattle.rates.proofs.Links.{lead-in}
 use Rattle.rates.proofs.Fronts.{marked-led, marked-fewer, cut}
@@ -9,7 +9,7 @@ use Rattle.rates.proofs.Tables.{stations-of}
 use Rattle.rates.proofs.cut_off.Needs as need
 
 pub loop-lead-holds : need.loop-lead-holds
-loop-lead-holds c = led-first (of-net (c .args .checked .now .net))
+loop-lead-holds c = subst (Led (of-net (c .args .checked .now .net))) (sym (c .first-number-z .ensures)) (led-first (of-net (c .args .checked .now .net)))
 
 pub index-z-lead : need.index-z-lead
 index-z-lead c = lead-in (of-net (c .args .checked .now .net)) (ranged _ (c .args .checked .now .ranged) .checked) (c .loop-lead .z) (c .in-Some .lead) (c .in-Some .ensures tt) .1

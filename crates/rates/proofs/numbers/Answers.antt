@@ -1,6 +1,8 @@
+use mathlib.Core.Path.{sym, subst}
 use Rattle.std.proofs.shelf.Ways.{not-from-decides}
 use Rattle.nets.specs.Views.{of-net}
 use Rattle.nets.proofs.Alone.{ranged}
+use Rattle.rates.specs.Reaching.{Part}
 use Rattle.rates.proofs.Starts.{part-first}
 use Rattle.rates.proofs.Links.{lead-in, lead-terms}
 use Rattle.rates.proofs.Parts.{part-more, over, unbalanced, balanced-rates}
@@ -8,7 +10,7 @@ use Rattle.rates.proofs.Fronts.{reached-fewer}
 use Rattle.rates.proofs.numbers.Needs as need
 
 pub loop-lead-holds : need.loop-lead-holds
-loop-lead-holds c = part-first (of-net (c .args .checked .now .net))
+loop-lead-holds c = subst (Part (of-net (c .args .checked .now .net))) (sym (c .first-number-z .ensures)) (part-first (of-net (c .args .checked .now .net)))
 
 pub reach-requires : need.reach-requires
 reach-requires c κs =

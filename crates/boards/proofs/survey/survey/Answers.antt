@@ -15,4 +15,5 @@ returns c =
       stations = sym (length-take-le (N .stations) (N .durations) (omega (arith, G .whole .few, G .whole .long)));
       rates = refl;
       fastest = c .in-Some .ensures tt .0;
+      range = c .in-Some .ensures tt .1;
     }

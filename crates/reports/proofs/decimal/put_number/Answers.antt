@@ -45,7 +45,7 @@ loop-m-again c =
       last .long,
       omega arith,
       last .front,
-      ap (λ ys. set ys (i + (k - 1)) (48 + m % 10)) (c .loop-m .inv .4) ∙ paste-step xs ds (drop (i + length ds) xs) i k (48 + m % 10) one (c .loop-m .inv .2) (last .here) (omega arith),
+      ap (λ v. set (c .loop-m .out) (i + (k - 1)) v) (c .digit .ensures) ∙ ap (λ ys. set ys (i + (k - 1)) (48 + m % 10)) (c .loop-m .inv .4) ∙ paste-step xs ds (drop (i + length ds) xs) i k (48 + m % 10) one (c .loop-m .inv .2) (last .here) (omega arith),
     )
 
 pub index-out-at-2 : need.index-out-at-2
@@ -61,6 +61,6 @@ returns c =
     let o = one-digit m (c .loop-m .k) ds (c .loop-m-test .left) (c .loop-m .inv .1) (c .loop-m .inv .3) in
     let step = paste-step xs ds t i 1 (48 + m) (omega arith) (omega (arith, decimal-some (c .args .n) (omega arith))) (o .1) (omega arith) in
     record {
-      bytes = ap (λ ys. set ys i (48 + m)) (c .loop-m .inv .4 ∙ ap (λ b. take (i + b) xs ++ (drop b ds ++ t)) (o .0)) ∙ (simp add-zero at step);
+      bytes = ap (λ v. set (c .loop-m .out) i v) (c .digit-2 .ensures) ∙ ap (λ ys. set ys i (48 + m)) (c .loop-m .inv .4 ∙ ap (λ b. take (i + b) xs ++ (drop b ds ++ t)) (o .0)) ∙ (simp add-zero at step);
       end = ap (λ k. i + k) (c .digit-count-w .ensures);
     }
