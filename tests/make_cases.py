@@ -132,6 +132,8 @@ def mechanical():
     yield "# a large net"
     with open(os.path.join(ROOT, "examples/large.net"), "rb") as f:
         yield "plan", f.read(), None
+    yield "# a fastest pace that takes many rounds"
+    yield "survey", many_rounds(), "rates " + " ".join(["1"] * 64) + "\nfastest 18000/1\n"
     yield "# small nets at random"
     for _ in range(400):
         yield rng.choice(["plan", "survey"]), small_net(rng), None
@@ -166,6 +168,20 @@ def large_net(rng):
                 return text
         except ValueError:
             pass  # no timetable at this pace
+
+
+def many_rounds():
+    """Pairs of stations, each with a rack that asks for its own pace, and all but one of them too fast: a search for the
+    fastest pace comes upon one pair after the other."""
+    durations, links, terms = [], [], []
+    for k in range(32):
+        durations += [9_000 - 50 * k, 9_000 - 50 * k]
+        links.append((2 * k, 2 * k + 1))
+        terms.append("1:1:0:1")
+    for k in range(31):
+        links.append((2 * k, 2 * k + 2))
+        terms.append("1:1:10000:-")
+    return net_text((1, 1), durations, links, terms)
 
 
 def small_net(rng):
