@@ -12,7 +12,8 @@ use Rattle.std.specs.declared.result.Result.the-variants.{Ok, Err}
 use Rattle.std.proofs.shelf.Lists.{length-take-le, getD-take, getD-map}
 use Rattle.rules.specs.Net.{Net, Sound, stations}
 use Rattle.rules.specs.Ranges.{InRange}
-use Rattle.rules.specs.Steps.{Step, forward, back, own, Has, Chain, leads-to, ticks}
+use Rattle.rules.specs.Steps.{Step, forward, Has, ticks}
+use Rattle.rules.proofs.Chains.{chain-has}
 use Rattle.rules.proofs.Tested.{open-below}
 use Rattle.rules.proofs.Sizes.{steps-sized}
 use Rattle.nets.specs.declared.Step as program
@@ -45,11 +46,6 @@ ends-within bytes out out′ (Ok n) same (room, e, q) = omega (arith, same, e, a
 ends-within bytes out out′ (Err short) same w = tt
 
 -- The steps of a circuit that is told have numbers below 128, and lengths of at most 17 digits
-
-chain-has : (N : Net) (c : List Step) (x y : ℕ) → Chain N x c y → (i : ℕ) → i < length c → Has N (getD c i (forward 0))
-chain-has N [] x y e i h = absurd (omega arith)
-chain-has N (s ∷ c) x y (a, e, r) zero h = a
-chain-has N (s ∷ c) x y (a, e, r) (suc i) h = chain-has N c (leads-to N s) y r i (omega arith)
 
 numbered : (N : Net) → InRange N → (s : program.Step) → Has N (of-step s) → step-number s < 128
 numbered N R (Forward k) (l, o) = omega (arith, open-below N k l o, R .numbers)

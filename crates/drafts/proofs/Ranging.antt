@@ -13,6 +13,7 @@ use Rattle.std.proofs.shelf.Ways.{tells}
 use Rattle.std.proofs.shelf.Tests.{cases-lt, ltb-true, ltb-false}
 use Rattle.std.specs.declared.option.Option.{Option}
 use Rattle.std.specs.declared.option.Option.the-variants.{Some, None}
+use Rattle.handover.proofs.Options.{none-some, some-same}
 use Rattle.rules.specs.Net as rules
 use Rattle.rules.specs.Ranges.{CheckedLink, Checked}
 use Rattle.nets.specs.declared.LinkEnds.{LinkEnds}
@@ -69,12 +70,6 @@ sizes-none s e = none-of-four (range-fault 1 1 64 (s .stations)) (range-fault 2 
 terms-none : (t : LinkTerms) → terms-fault t ≡ None →
     (range-fault 1 1 1_000 (t .produced) ≡ None) × (range-fault 2 1 1_000 (t .consumed) ≡ None) × (range-fault 3 0 10_000 (t .stock) ≡ None) × (capacity-fault (t .capacity) ≡ None)
 terms-none t e = none-of-four (range-fault 1 1 1_000 (t .produced)) (range-fault 2 1 1_000 (t .consumed)) (range-fault 3 0 10_000 (t .stock)) (capacity-fault (t .capacity)) e
-
-some-same : {X : Type 0} (x y : X) → Some x ≡ Some y → x ≡ y
-some-same x y e = cc
-
-none-some : {X : Type 0} (x : X) → None ≡ Some x → ⊥
-none-some x e = let z : _≡_ {A = ℕ} 0 1 = cc in omega arith
 
 -- the links that a draft opens
 slot-link : (b : Bool) (x : Link) (l : rules.Link) → of-slot (cond b (Some x) None) ≡ Some l → (b ≡ true) × (of-link x ≡ l)

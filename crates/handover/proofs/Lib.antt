@@ -7,3 +7,4 @@ pub mod Rates
 pub mod Timetable
 pub mod Examples
 pub mod Once
+pub mod Options

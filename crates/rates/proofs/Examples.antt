@@ -16,7 +16,7 @@ use Rattle.rates.specs.Reaching.{number, Balance}
 use Rattle.rules.proofs.Examples as examples
 use Rattle.rates.specs.Theorems.{tie, net, two, row, ring, assembly, Worked}
 use Rattle.rates.proofs.Links.{led-reached}
-use Rattle.rates.proofs.Tables.{none-some, some-same}
+use Rattle.handover.proofs.Options.{none-some, some-same}
 
 -- P holds of each element
 abbrev Each : {A : Type 0} → (A → Type 0) → List A → Type 0

@@ -17,18 +17,13 @@ use Rattle.rules.specs.Rates.{Rated, with-rates}
 use Rattle.rules.proofs.Soundness.{sound, in-range}
 use Rattle.rules.proofs.Tested.{open-below}
 use Rattle.nets.specs.declared.Link.{Link}
+use Rattle.handover.proofs.Options.{none-some, some-same}
 use Rattle.nets.specs.declared.Net.{Net}
 use Rattle.nets.specs.Views.{of-link, of-slot, of-net, Whole, Ranged, Good}
 use Rattle.rates.specs.Answer.{with-table, Replaced}
 
 pub stations-of : (M : Net) → Whole M → stations (of-net M) ≡ M .stations
 stations-of M W = length-take-le (M .stations) (M .durations) (omega (arith, W .few, W .long))
-
-pub none-some : {A : Type 0} (x : A) → _≡_ {A = Option A} None (Some x) → ⊥
-none-some x e = let z : _≡_ {A = ℕ} 0 1 = cc in omega arith
-
-pub some-same : {A : Type 0} (x y : A) → _≡_ {A = Option A} (Some x) (Some y) → x ≡ y
-some-same x y e = cc
 
 -- what stands under a number is what is open there
 module _ (M : Net) (k : ℕ) where

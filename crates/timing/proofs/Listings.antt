@@ -16,7 +16,7 @@ use Rattle.rules.proofs.Tested.{open-below}
 use Rattle.nets.specs.declared.Step as code
 use Rattle.nets.specs.declared.Step.the-variants.{Forward, Back}
 use Rattle.nets.specs.Views.{of-step}
-use Rattle.timing.proofs.Opened.{none-some}
+use Rattle.handover.proofs.Options.{none-some}
 use Rattle.timing.specs.Listing.{room-steps, link-steps, links-to, owns-to, steps-of}
 
 -- The list has the net's steps, all of them and no others.
@@ -107,15 +107,15 @@ in-right s xs ys (e, h, p) = (length xs + e, omega (arith, length-append xs ys),
 
 module _ (N : Net) where
   forward-in : (k : ℕ) (o : Option Link) (l : Link) → o ≡ Some l → In (forward k) (link-steps k o)
-  forward-in k None l e = absurd (none-some e)
+  forward-in k None l e = absurd (none-some l e)
   forward-in k (Some l′) l e = (0, omega arith, refl)
 
   room-in : (k : ℕ) (o : Option ℕ) (c : ℕ) → o ≡ Some c → In (back k) (room-steps k o)
-  room-in k None c e = absurd (none-some e)
+  room-in k None c e = absurd (none-some c e)
   room-in k (Some c′) c e = (0, omega arith, refl)
 
   back-in : (k : ℕ) (o : Option Link) (l : Link) (c : ℕ) → o ≡ Some l → l .c ≡ Some c → In (back k) (link-steps k o)
-  back-in k None l c e f = absurd (none-some e)
+  back-in k None l c e f = absurd (none-some l e)
   back-in k (Some l′) l c e f =
       let q : l′ ≡ l = cc in
       in-right (back k) (forward k ∷ []) (room-steps k (l′ .c)) (room-in k (l′ .c) c (ap (λ z. z .c) q ∙ f))

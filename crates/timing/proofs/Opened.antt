@@ -17,18 +17,16 @@ use Rattle.rules.specs.Net.{stations, duration, rate, Open}
 use Rattle.rules.specs.Steps.{forward, back, own, worth, grain, or-else}
 use Rattle.rules.proofs.Tested.{open-below}
 use Rattle.rules.proofs.Links.{link-is}
+use Rattle.handover.proofs.Options.{none-some}
 use Rattle.search.specs.declared.Edge.{Edge}
 use Rattle.nets.specs.declared.Link.{Link}
 use Rattle.nets.specs.declared.Net.{Net}
 use Rattle.nets.specs.Views.{of-link, of-slot, of-net, Good}
 use Rattle.timing.specs.Edges.{Opens, Placed, Known, unit-of, grain-of, between, own-edge, pair-edge}
 
-pub none-some : {X : Type 0} {x : X} → None ≡ Some x → ⊥
-none-some e = let z : _≡_ {A = ℕ} 0 1 = cc in omega arith
-
 slot-none : (o : Option Link) (l : rules.Link) → of-slot o ≡ Some l → o ≡ None → ⊥
-slot-none None l e f = none-some e
-slot-none (Some x) l e f = none-some (sym f)
+slot-none None l e f = none-some l e
+slot-none (Some x) l e f = none-some x (sym f)
 
 pub opened : (N : Net) (k : ℕ) (l : Link) → getD (N .links) k None ≡ Some l → Open (of-net N) k (of-link l)
 opened N k l e = List·getD-map of-slot (N .links) k None ∙ ap of-slot e

@@ -16,6 +16,7 @@ use Rattle.rules.specs.Net.{Sound}
 use Rattle.rules.specs.Rules.{HasTimetable, NoPace}
 use Rattle.rules.specs.Steps.{Step, forward, Has, Chain, leads-to, shares, time, shares-of, time-of, ticks-of}
 use Rattle.rules.specs.Ranges.{InRange, Sized}
+use Rattle.rules.proofs.Chains.{chain-has}
 use Rattle.rules.proofs.Paces.{chain-pair, pair-forbids}
 use Rattle.rules.proofs.Fastest as fastest
 use Rattle.rules.proofs.Sizes.{steps-sized, chains-sized}
@@ -39,11 +40,6 @@ pair-push N ks s =
     let a : shares-of N (ks ++ (s ∷ [])) ≡ shares-of N ks +ℤ shares N s = shares-join N ks (s ∷ []) ∙ ap (λ z. shares-of N ks +ℤ z) (+ℤ-idr (shares N s)) in
     let b : time-of N (ks ++ (s ∷ [])) ≡ time-of N ks + time N s = omega (arith, time-join N ks (s ∷ [])) in
     λ x. (a x, pos (b x))
-
-chain-has : (N : rules.Net) (c : List Step) (x y : ℕ) → Chain N x c y → (t : ℕ) → t < length c → Has N (getD c t (forward 0))
-chain-has N [] x y e t h = absurd (omega arith)
-chain-has N (s ∷ c) x y (a, e, r) zero h = a
-chain-has N (s ∷ c) x y (a, e, r) (suc t) h = chain-has N c (leads-to N s) y r t (omega arith)
 
 pair-sized : (N : rules.Net) → Sound N → InRange N → (ks : List Step) → ((e : ℕ) → e < length ks → Has N (getD ks e (forward 0))) → size-pair (pair-of N ks) ≤ length ks * 100_000_000
 pair-sized N S R [] h = omega arith

@@ -8,6 +8,7 @@ use borrow.Author.Needs.{needs}
 use Rattle.std.specs.Written.{decimal}
 use Rattle.std.specs.declared.option.Option.{Option}
 use Rattle.std.specs.declared.option.Option.the-variants.{Some, None}
+use Rattle.handover.proofs.Options.{none-some, some-same}
 use Rattle.reports.specs.Pasted.{Wrote}
 use Rattle.reports.specs.Bytes.{place-bytes, refusal-bytes}
 use Rattle.reports.proofs.Rows.{second-fits, third-fits, wrote-three}
@@ -16,18 +17,15 @@ use Rattle.reports.proofs.report.put_refusal.Needs as need
 
 pub put-number-numbered-requires : need.put-number-numbered-requires
 put-number-numbered-requires c κs =
-    omega (arith, second-fits (c .args .out .now) 0 (codes "refused ") (decimal (c .args .number)) (place-bytes None) (refusal-fits (c .args .out .now) (c .pre) (c .args .number) None (omega arith) (λ p e. absurd (let z : _≡_ {A = ℕ} 0 1 = cc in omega arith))) (c .put-bytes-named .last .out) (c .put-bytes-named .result) (c .put-bytes-named .ensures))
+    omega (arith, second-fits (c .args .out .now) 0 (codes "refused ") (decimal (c .args .number)) (place-bytes None) (refusal-fits (c .args .out .now) (c .pre) (c .args .number) None (omega arith) (λ p e. absurd (none-some p e))) (c .put-bytes-named .last .out) (c .put-bytes-named .result) (c .put-bytes-named .ensures))
 
 pub put-bytes-requires : need.put-bytes-requires
 put-bytes-requires c κs =
     omega (
       arith,
-      third-fits (c .args .out .now) 0 (codes "refused ") (decimal (c .args .number)) (place-bytes None) (refusal-fits (c .args .out .now) (c .pre) (c .args .number) None (omega arith) (λ p e. absurd (let z : _≡_ {A = ℕ} 0 1 = cc in omega arith)))
+      third-fits (c .args .out .now) 0 (codes "refused ") (decimal (c .args .number)) (place-bytes None) (refusal-fits (c .args .out .now) (c .pre) (c .args .number) None (omega arith) (λ p e. absurd (none-some p e)))
           (c .put-bytes-named .last .out) (c .put-number-numbered .last .out) (c .put-bytes-named .result) (c .put-number-numbered .result) (c .put-bytes-named .ensures) (c .put-number-numbered .ensures),
     )
-
-some-same : (x y : ℕ) → Some x ≡ Some y → x ≡ y
-some-same x y e = cc
 
 pub count-line-requires : need.count-line-requires
 count-line-requires c κs =
@@ -41,7 +39,7 @@ count-line-requires c κs =
 pub returns-in-None : need.returns-in-None
 returns-in-None c =
     subst (λ z. Wrote (c .args .out .now) 0 (refusal-bytes (c .args .number) z) (c .put-bytes .last .out) (c .put-bytes .result)) (sym (c .in-None .is))
-    (wrote-three (c .args .out .now) 0 (codes "refused ") (decimal (c .args .number)) (place-bytes None) (refusal-fits (c .args .out .now) (c .pre) (c .args .number) None (omega arith) (λ p e. absurd (let z : _≡_ {A = ℕ} 0 1 = cc in omega arith)))
+    (wrote-three (c .args .out .now) 0 (codes "refused ") (decimal (c .args .number)) (place-bytes None) (refusal-fits (c .args .out .now) (c .pre) (c .args .number) None (omega arith) (λ p e. absurd (none-some p e)))
     (c .put-bytes-named .last .out) (c .put-number-numbered .last .out) (c .put-bytes .last .out) (c .put-bytes-named .result) (c .put-number-numbered .result) (c .put-bytes .result)
     (c .put-bytes-named .ensures) (c .put-number-numbered .ensures) (c .put-bytes .ensures))
 
