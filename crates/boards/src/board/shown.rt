@@ -15,21 +15,20 @@ use reports::report::report_timetable;
 use reports::told::Timetable;
 
 // One station of duration 1 and rate 1, no link, pace 1/1.
-fn new_net() -> SoundNet
-    ensures { λ r. ⌜ r .net ≡ new-net ⌝ }
+fn new_net() -> Net
+    ensures { λ r. ⌜ r ≡ new-net ⌝ }
 {
     let mut durations = [0; 64];
     durations[0] = 1;
     let mut rates = [0; 64];
     rates[0] = 1;
-    let net = Net {
+    Net {
         stations: 1,
         durations,
         rates,
         links: [None; 128],
         pace: Pace { share: 1, unit: 1 },
-    };
-    SoundNet { net }
+    }
 }
 
 // The periods of the stations, in ticks: a share lasts `share` ticks.
@@ -49,8 +48,9 @@ impl Board {
     pub fn new() -> Board
         ensures { λ r. ⌜ r .net .net ≡ new-net ⌝ }
     {
+        let net = SoundNet { net: new_net() };
         Board {
-            net: new_net(),
+            net,
             starts: [0; 64],
         }
     }
@@ -59,9 +59,9 @@ impl Board {
     pub fn report(&self, out: &mut [u8]) -> Result<usize, ShortBuffer>
         ensures { λ r. ⌜ Reported (timetable-bytes (now (self .entry) .net .net .stations) (starts-of (now (self .entry))) (periods-of (net-of (now (self .entry))))) (now (out .entry)) (now (out .exit)) r ⌝ }
     {
-        let starts = self.starts;
         let net = &self.net.net;
         let periods = periods(net.stations, net.pace.share, &net.rates);
+        let starts = self.starts;
         let timetable = Timetable {
             stations: net.stations,
             starts,
