@@ -2,6 +2,8 @@
 // A line of the input is a comment that begins with `#`; or `draft` and what is done to a draft; or `plan`, `survey`, `list of 63` (a load with a list
 // that is too short) or `buffer of 4095` (a report into a buffer that is too short), a space, and a text in which `\n` stands for a newline, `\\` for a
 // backslash and `\xHH` for the byte of these hexadecimal digits.
+#![tactic(auto)]
+
 ghost use Rattle.std.specs.Prelude.{◌<◌};
 
 use anyhow::anyhow;

@@ -1,4 +1,6 @@
 // The checks of a call's numbers, and why a call is refused.
+#![tactic(auto)]
+
 ghost use Rattle.std.specs.Prelude.{◌≡◌};
 ghost use Rattle.checks.specs.Faults.{judged};
 

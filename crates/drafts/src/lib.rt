@@ -1,4 +1,6 @@
 // A draft of a net: five stages that take its entries, each with checks of its own.
+#![tactic(auto)]
+
 pub mod check;
 mod entries;
 pub mod fault;

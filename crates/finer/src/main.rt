@@ -1,4 +1,6 @@
 // A third kind of length, which also counts steps, and the one search at all three kinds.
+#![tactic(auto)]
+
 ghost use Rattle.std.specs.Prelude.{◌≡◌, ℕ, ◌+◌, ◌≤◌, min};
 ghost use Rattle.search.specs.Answer.{Whole};
 ghost use Rattle.finer.specs.Model.{no_steps, more_steps, back_steps, size_steps, below_steps};

@@ -1,4 +1,6 @@
 // Texts of a form: pieces, numbers and lines, and what a reader of such a text may say. Each function's contract is a theorem.
+#![tactic(auto)]
+
 ghost use Rattle.forms.specs.Laws.{NumeralsRead, NumeralsOnly, NumeralsPrinted};
 
 // A number's spelling is read as the number.

@@ -1,4 +1,6 @@
 // The hand-over law: when a supply that arrives at one rhythm covers what is drawn at another. But for the last one, each function's contract is a theorem.
+#![tactic(auto)]
+
 ghost use Rattle.std.specs.Prelude.{◌≡◌};
 ghost use Rattle.handover.specs.Gcd.{gcd};
 ghost use Rattle.handover.specs.Law.{Counts, HandOverLaw, GcdIs, BezoutHolds, Rates, Timetable, FirstDraw, WholeTicks};

@@ -1,4 +1,6 @@
 // The ledger: the rule book against which every call of a board is judged. Each function's contract is a theorem on it.
+#![tactic(auto)]
+
 ghost use Rattle.ledger.specs.Facts.{Deterministic, NothingChanges, StatesHeld, CloseKeeps, Offered, TimetablesDecide, LeastThere, RunsJoin, RunsDecide};
 ghost use Rattle.ledger.specs.Examples.{Worked};
 

@@ -1,5 +1,7 @@
 // A net as programs hold it: stations with durations and rates, links by number, and the pace. Plain values; what is known of them is said by the types above.
 
+#![tactic(auto)]
+
 pub mod checked;
 pub mod sound;
 pub mod timed;

@@ -1,4 +1,6 @@
 // Reads a net text from standard input, and prints its timetable or why it has none.
+#![tactic(auto)]
+
 ghost use Rattle.std.specs.Prelude.{◌≤◌, length, IfOk};
 
 use boards::plan::plan;

@@ -1,4 +1,6 @@
 // Whether the stations of a checked net are joined, and the rates of a joined one, which make it a sound net.
+#![tactic(auto)]
+
 ghost use Rattle.std.specs.Prelude.{◌≡◌, ◌*◌, ◌<◌, ◌≤◌, take, replicate, Decides, slice_set};
 ghost use Rattle.rules.specs.Net.{stations};
 ghost use Rattle.rules.specs.Rates.{Joined, Rated, with_rates};

@@ -1,4 +1,6 @@
 // Reports of timetables and refusals, byte for byte.
+#![tactic(auto)]
+
 mod decimal;
 mod lines;
 pub mod report;

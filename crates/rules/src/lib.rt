@@ -1,4 +1,6 @@
 // What the rules of a timetable come to, in steps, chains and circuits. Each function's contract is a theorem.
+#![tactic(auto)]
+
 ghost use Rattle.rules.specs.Theorems.{FiringsCounted, StocksKept, StepsDecide, ChainBounds, CircuitForbids, LeastWhenReached, LeastOne, CircuitTurned, PairForbids, PaceFloor, LeastOrCircuit, CircuitsDecide, PairsDecide, PairStartsAllow};
 ghost use Rattle.rules.specs.Paces.{SlowerToo, FastestWhen, FastestOrPair, FastestNamed, FastestOne};
 ghost use Rattle.rules.specs.Ranges.{StepsSized, ChainsSized, FastestInRange, RatesSound};

@@ -1,4 +1,6 @@
 // Least starts over edges with lengths of any ordered kind, or a circuit whose joined length is above neutral.
+#![tactic(auto)]
+
 ghost use Rattle.std.specs.Prelude.{◌≡◌, ℕ, ◌+◌, ◌-◌, ◌<◌, ◌≤◌, true, false, List, length, take, drop, replicate, IfSome, None, Option, MatchOption, ◌≢◌, slice_index};
 ghost use Rattle.search.specs.Terms.{Within, begins, ends, lasts, Searchable, EdgeCircuit};
 ghost use Rattle.search.specs.Levels.{EdgeFits, Joinable, Raised, Level, History, Levelled, Marked, LowestAt, Rising};
@@ -18,7 +20,7 @@ pub struct Edge<L> {
 fn same_level<L: OrderedLength>(before: &[L], best: &mut [L], via: &mut [Option<usize>; 64])
     requires long { length before.now ≡ 64 }
     requires wide { length best.old ≡ 64 }
-    ensures { (es : List (Edge L)) → Level L.Joining.neutral L.Joining.joined below es 0 before.now best.new via.new None }
+    ensures { (es : List (Edge L)) → Level L.Joining.neutral L.Joining.joined L.below es 0 before.now best.new via.new None }
 {
     best.copy_from_slice(before);
     *via = [None; 64];
@@ -27,7 +29,7 @@ fn same_level<L: OrderedLength>(before: &[L], best: &mut [L], via: &mut [Option<
 // Raises the length at `to`, where the one that is reached is greater, and says whether it was so.
 fn raise<L: OrderedLength>(best: &mut [L], to: usize, reached: L) -> bool
     requires { to < length best.old }
-    ensures { Raised L.Joining.neutral below best.old to reached best.new result }
+    ensures { Raised L.Joining.neutral L.below best.old to reached best.new result }
 {
     if best[to].is_below(reached) {
         best[to] = reached;
@@ -49,8 +51,8 @@ fn raised_by<L: OrderedLength>(
     requires long { length before.now ≡ 64 }
     requires inside { Within 64 edges.now }
     requires room { Joinable L.Joining.neutral L.Joining.size L.Joining.largest edges.now before.now }
-    requires level { Level L.Joining.neutral L.Joining.joined below edges.now i before.now best.old via.old raised }
-    ensures { Level L.Joining.neutral L.Joining.joined below edges.now (i + 1) before.now best.new via.new result }
+    requires level { Level L.Joining.neutral L.Joining.joined L.below edges.now i before.now best.old via.old raised }
+    ensures { Level L.Joining.neutral L.Joining.joined L.below edges.now (i + 1) before.now best.new via.new result }
 {
     let edge = edges[i];
     let reached = before[edge.from].join(edge.length);
@@ -72,7 +74,7 @@ fn stepped<L: OrderedLength>(
     requires wide { length best.old ≡ 64 }
     requires inside { Within 64 edges.now }
     requires room { Joinable L.Joining.neutral L.Joining.size L.Joining.largest edges.now before.now }
-    ensures { Level L.Joining.neutral L.Joining.joined below edges.now (length edges.now) before.now best.new via.new result }
+    ensures { Level L.Joining.neutral L.Joining.joined L.below edges.now (length edges.now) before.now best.new via.new result }
 {
     same_level(before, best, via);
     let mut raised = None;
@@ -114,9 +116,9 @@ fn lowest_place<L>(edges: &[Edge<L>], chain: &[usize]) -> usize
 // The circuit of a closed chain that rises, from its lowest node.
 fn from_lowest<L: OrderedLength>(edges: &[Edge<L>], chain: &[usize]) -> Round
     requires few { length chain.now ≤ 64 }
-    requires rising { Rising L.Joining.neutral L.Joining.joined below edges.now chain.now }
+    requires rising { Rising L.Joining.neutral L.Joining.joined L.below edges.now chain.now }
     ensures whole { Whole result }
-    ensures circuit { EdgeCircuit L.Joining.neutral L.Joining.joined below edges.now (around result) }
+    ensures circuit { EdgeCircuit L.Joining.neutral L.Joining.joined L.below edges.now (around result) }
 {
     let first = lowest_place(edges, chain);
     let count = chain.len();
@@ -139,9 +141,9 @@ fn part_as_circuit<L: OrderedLength>(
 ) -> Round
     requires order { first ≤ last }
     requires inside { last < 64 }
-    requires rising { Rising L.Joining.neutral L.Joining.joined below edges.now (take (last + 1 - first) (drop first path.now)) }
+    requires rising { Rising L.Joining.neutral L.Joining.joined L.below edges.now (take (last + 1 - first) (drop first path.now)) }
     ensures whole { Whole result }
-    ensures circuit { EdgeCircuit L.Joining.neutral L.Joining.joined below edges.now (around result) }
+    ensures circuit { EdgeCircuit L.Joining.neutral L.Joining.joined L.below edges.now (around result) }
 {
     from_lowest(edges, &path[first..last + 1])
 }
@@ -175,11 +177,11 @@ fn walked_back<L: OrderedLength>(
 ) -> Round
     requires few { nodes ≤ 64 }
     requires inside { Within nodes edges.now }
-    requires levels { Levelled L.Joining.neutral L.Joining.joined below edges.now vias.now nodes }
+    requires levels { Levelled L.Joining.neutral L.Joining.joined L.below edges.now vias.now nodes }
     requires raised { Marked vias.now nodes last }
     requires node { last < nodes }
     ensures whole { Whole result }
-    ensures circuit { EdgeCircuit L.Joining.neutral L.Joining.joined below edges.now (around result) }
+    ensures circuit { EdgeCircuit L.Joining.neutral L.Joining.joined L.below edges.now (around result) }
 {
     let mut path = [0; 64];
     let mut x = last;
@@ -199,7 +201,7 @@ fn walked_back<L: OrderedLength>(
 // Neutral everywhere, as the first level is.
 fn clear<L: OrderedLength>(starts: &mut [L])
     requires { length starts.old ≡ 64 }
-    ensures level { (es : List (Edge L)) (vias : List (List (Option ℕ))) → History L.Joining.neutral L.Joining.joined below es vias 0 starts.new }
+    ensures level { (es : List (Edge L)) (vias : List (List (Option ℕ))) → History L.Joining.neutral L.Joining.joined L.below es vias 0 starts.new }
     ensures neutral { starts.new ≡ replicate 64 L.Joining.neutral }
 {
     let none = L::none();
@@ -218,7 +220,7 @@ fn search_levels<L: OrderedLength>(
     requires asked { Searchable L.Joining.neutral L.Joining.size L.Joining.largest nodes edges.now }
     requires long { length starts.old ≡ 64 }
     requires wide { length spare.old ≡ 64 }
-    ensures answered { Answered L.Joining.neutral L.Joining.joined below nodes edges.now starts.new result }
+    ensures answered { Answered L.Joining.neutral L.Joining.joined L.below nodes edges.now starts.new result }
     ensures past { NeutralPast L.Joining.neutral nodes starts.new }
 {
     clear(starts);
@@ -273,7 +275,7 @@ pub fn least_starts<L: OrderedLength>(
     spare: &mut [L],
 ) -> Option<Outcome>
     ensures asked { MatchOption result (Askable L.Joining.neutral L.Joining.size L.Joining.largest nodes edges.now starts.old spare.old → ⊥) (λ _. Askable L.Joining.neutral L.Joining.size L.Joining.largest nodes edges.now starts.old spare.old) }
-    ensures answered { IfSome result (Answered L.Joining.neutral L.Joining.joined below nodes edges.now starts.new) }
+    ensures answered { IfSome result (Answered L.Joining.neutral L.Joining.joined L.below nodes edges.now starts.new) }
     ensures left { MatchOption result ((starts.new ≡ starts.old) × (spare.new ≡ spare.old)) (LeftNeutral L.Joining.neutral nodes starts.new spare.new) }
 {
     if starts.len() != 64 || spare.len() != 64 || !searchable(nodes, edges) {

@@ -1,4 +1,6 @@
 // The text of a net: four lines for its sizes and pace, its durations, its links' ends, and their terms. `read` fills a draft from it.
+#![tactic(auto)]
+
 ghost use Rattle.std.specs.Prelude.{◌≡◌, ℕ, IfOk, IfErr, OnErr};
 ghost use Rattle.drafts.specs.declared.fault.DraftFault.{DraftFault};
 ghost use Rattle.drafts.specs.Stages.{blank};

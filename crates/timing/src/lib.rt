@@ -1,4 +1,6 @@
 // Timetables of a sound net: the least one or a circuit that leaves none, and the fastest pace.
+#![tactic(auto)]
+
 ghost use Rattle.std.specs.Prelude.{◌≡◌, true, false, MatchOption, MatchResult};
 ghost use Rattle.rules.specs.Rules.{NoPace};
 ghost use Rattle.nets.specs.Views.{of_net};

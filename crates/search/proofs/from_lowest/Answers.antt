@@ -16,9 +16,9 @@ lowest-place-first-requires g c =
 pub returns : goal.returns
 returns g c =
     let few = c.requires.few in
-    let p = c.lowest-place-first.result in
-    let f = front_turned _ p c.args.chain.now (replicate 64 0) c.rotate-left.new.self refl few (c.rotate-left.ensures.after ∙ ap (turned p) c.copy-from-slice.ensures.after) in
+    let p = c.lowest_place-first.result in
+    let f = front_turned _ p c.args.chain.now (replicate 64 0) c.rotate_left.new.self refl few (c.rotate_left.ensures.after ∙ ap (turned p) c.copy-from-slice.ensures.after) in
     record {
       whole = (f.0, few);
-      circuit = rw f.1 (circuit_from g.met.L.Joining.joins g.met.L.OrderedLength.orders c.args.edges.now c.args.chain.now p c.requires.rising c.lowest-place-first.ensures);
+      circuit = rw f.1 (circuit_from g.met.L.Joining.joins g.met.L.OrderedLength.orders c.args.edges.now c.args.chain.now p c.requires.rising c.lowest_place-first.ensures);
     }
