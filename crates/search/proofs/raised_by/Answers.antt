@@ -4,8 +4,8 @@ use Rattle.std.proofs.lemmas.List.{get_or_read}
 use Rattle.search.proofs.Stepping.{turn_keep, turn_raise}
 use Rattle.search.proofs.raised_by.Goals as goal
 
-pub offset-bounds-before-edge : goal.offset-bounds-before-edge
-offset-bounds-before-edge g c =
+pub offset_bounds-before-edge : goal.offset_bounds-before-edge
+offset_bounds-before-edge g c =
     let h = from_in _ _ _ c.requires.edge c.index-edges-i.is 64 c.requires.inside in search rules
 
 pub bounds-before-edge : goal.bounds-before-edge
@@ -28,8 +28,8 @@ pub raise-requires : goal.raise-requires
 raise-requires g c =
     let h = to_in _ _ _ c.requires.edge c.index-edges-i.is 64 c.requires.inside in let k = c.requires.level.many in omega arith
 
-pub offset-bounds-via-edge : goal.offset-bounds-via-edge
-offset-bounds-via-edge g c =
+pub offset_bounds-via-edge : goal.offset_bounds-via-edge
+offset_bounds-via-edge g c =
     let h = to_in _ _ _ c.requires.edge c.index-edges-i.is 64 c.requires.inside in search rules
 
 pub bounds-via-edge : goal.bounds-via-edge
