@@ -5,7 +5,7 @@ use Rattle.nets.proofs.Alone.{ranged}
 use Rattle.rates.specs.Reaching.{Balance}
 use Rattle.rates.proofs.Tables.{open_here, ends_in, scan_link, scan_none, scan_all}
 use Rattle.rates.proofs.balanced.Goals as goal
-use Rattle.rates.proofs.balanced.Goals.{in-Some+else-not-balances, in-default}
+use Rattle.rates.proofs.balanced.Goals.{in-Some+else-not-balances, in_default}
 
 pub balances-requires : goal.balances-requires
 balances-requires c =
@@ -22,7 +22,7 @@ pub loop-k-preserved : goal.loop-k-preserved
 loop-k-preserved c =
     elim c.match-slot.branch [
       | in-Some+else-not-balances w ↦ scan_link c.args.checked.now.net (λ t. Balance t c.args.z.now) c.loop-k.k c.loop-k.invariant w.in-Some.link w.in-Some.is (w.balances.ensures.0 w.if-not-balances.false)
-      | in-default w ↦ scan_none c.args.checked.now.net (λ t. Balance t c.args.z.now) c.loop-k.k c.loop-k.invariant w.in-default.is
+      | in_default w ↦ scan_none c.args.checked.now.net (λ t. Balance t c.args.z.now) c.loop-k.k c.loop-k.invariant w.in_default.is
     ]
 
 pub returns : goal.returns

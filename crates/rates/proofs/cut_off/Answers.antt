@@ -9,7 +9,7 @@ use Rattle.rates.proofs.Tables.{stations_of}
 use Rattle.rates.proofs.cut_off.Goals as goal
 
 pub loop-lead-init : goal.loop-lead-init
-loop-lead-init c = subst (Led (of_net c.args.checked.now.net)) (sym c.first-number-z.ensures) (led_first (of_net c.args.checked.now.net))
+loop-lead-init c = subst (Led (of_net c.args.checked.now.net)) (sym c.first_number-z.ensures) (led_first (of_net c.args.checked.now.net))
 
 pub bounds-z-lead : goal.bounds-z-lead
 bounds-z-lead c = (lead_in (of_net c.args.checked.now.net) (ranged _ c.args.checked.now.ranged).checked c.loop-lead.z c.in-Some.lead c.in-Some.ensures).1
@@ -26,5 +26,5 @@ lowest-requires c = (ranged _ c.args.checked.now.ranged).whole.few
 pub returns : goal.returns
 returns c =
     let W = (ranged _ c.args.checked.now.ranged).whole in
-    cut (of_net c.args.checked.now.net) c.loop-lead.z c.lowest.result c.loop-lead.invariant c.in-default.ensures
+    cut (of_net c.args.checked.now.net) c.loop-lead.z c.lowest.result c.loop-lead.invariant c.in_default.ensures
     (subst (λ n. Lowest n c.loop-lead.z c.lowest.result) (sym (stations_of _ W)) c.lowest.ensures)

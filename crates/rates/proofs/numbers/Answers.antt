@@ -10,7 +10,7 @@ use Rattle.rates.proofs.Fronts.{reached_fewer}
 use Rattle.rates.proofs.numbers.Goals as goal
 
 pub loop-lead-init : goal.loop-lead-init
-loop-lead-init c = subst (Part (of_net c.args.checked.now.net)) (sym c.first-number-z.ensures) (part_first (of_net c.args.checked.now.net))
+loop-lead-init c = subst (Part (of_net c.args.checked.now.net)) (sym c.first_number-z.ensures) (part_first (of_net c.args.checked.now.net))
 
 pub reach-requires : goal.reach-requires
 reach-requires c =
@@ -38,9 +38,9 @@ loop-lead-preserved c =
 
 pub returns-then-balanced : goal.returns-then-balanced
 returns-then-balanced c =
-    balanced_rates (of_net c.args.checked.now.net) c.loop-lead.z (ranged _ c.args.checked.now.ranged).checked c.requires c.loop-lead.invariant c.in-default.ensures (c.balanced.ensures.0 c.if-balanced.true)
+    balanced_rates (of_net c.args.checked.now.net) c.loop-lead.z (ranged _ c.args.checked.now.ranged).checked c.requires c.loop-lead.invariant c.in_default.ensures (c.balanced.ensures.0 c.if-balanced.true)
 
 pub returns-else-balanced : goal.returns-else-balanced
 returns-else-balanced c =
-    unbalanced (of_net c.args.checked.now.net) c.loop-lead.z (ranged _ c.args.checked.now.ranged).checked c.requires c.loop-lead.invariant c.in-default.ensures
+    unbalanced (of_net c.args.checked.now.net) c.loop-lead.z (ranged _ c.args.checked.now.ranged).checked c.requires c.loop-lead.invariant c.in_default.ensures
     (not_from_Decides c.balanced.result c.balanced.ensures c.if-balanced.false)

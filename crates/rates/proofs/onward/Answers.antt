@@ -4,22 +4,22 @@ use Rattle.nets.proofs.Alone.{ranged}
 use Rattle.rates.specs.Reaching.{OnwardBy}
 use Rattle.rates.proofs.Tables.{open_here, ends_in, scan_link, scan_none, scan_all}
 use Rattle.rates.proofs.onward.Goals as goal
-use Rattle.rates.proofs.onward.Goals.{in-Some+in-default-lead-on, in-default}
+use Rattle.rates.proofs.onward.Goals.{in-Some+in_default-lead_on, in_default}
 
-pub lead-on-requires : goal.lead-on-requires
-lead-on-requires c =
+pub lead_on-requires : goal.lead_on-requires
+lead_on-requires c =
     let e = ends_in c.args.checked.now.net c.loop-k.k (ranged _ c.args.checked.now.ranged) c.in-Some.link c.in-Some.is in
     record { from = e.0; to = e.1 }
 
-pub returns-in-Some-lead-on : goal.returns-in-Some-lead-on
-returns-in-Some-lead-on c =
-    (c.loop-k.k, of_link c.in-Some.link, open_here c.args.checked.now.net c.loop-k.k c.in-Some.link c.in-Some.is, c.in-Some-lead-on.ensures)
+pub returns-in-Some-lead_on : goal.returns-in-Some-lead_on
+returns-in-Some-lead_on c =
+    (c.loop-k.k, of_link c.in-Some.link, open_here c.args.checked.now.net c.loop-k.k c.in-Some.link c.in-Some.is, c.in-Some-lead_on.ensures)
 
 pub loop-k-preserved : goal.loop-k-preserved
 loop-k-preserved c =
     elim c.match-slot.branch [
-      | in-Some+in-default-lead-on w ↦ scan_link c.args.checked.now.net (λ t. OnwardBy t c.args.z.now None) c.loop-k.k c.loop-k.invariant w.in-Some.link w.in-Some.is w.in-default-lead-on.ensures
-      | in-default w ↦ scan_none c.args.checked.now.net (λ t. OnwardBy t c.args.z.now None) c.loop-k.k c.loop-k.invariant w.in-default.is
+      | in-Some+in_default-lead_on w ↦ scan_link c.args.checked.now.net (λ t. OnwardBy t c.args.z.now None) c.loop-k.k c.loop-k.invariant w.in-Some.link w.in-Some.is w.in_default-lead_on.ensures
+      | in_default w ↦ scan_none c.args.checked.now.net (λ t. OnwardBy t c.args.z.now None) c.loop-k.k c.loop-k.invariant w.in_default.is
     ]
 
 pub returns : goal.returns

@@ -3,17 +3,17 @@ use Rattle.nets.proofs.Alone.{ranged}
 use Rattle.rates.proofs.Tables.{replaced_by, good_by}
 use Rattle.rates.proofs.with_numbers.Goals as goal
 
-pub overflow-cast-stations : goal.overflow-cast-stations
-overflow-cast-stations c = let few = (ranged _ c.args.checked.now.ranged).whole.few in search rules
+pub overflow_cast-stations : goal.overflow_cast-stations
+overflow_cast-stations c = let few = (ranged _ c.args.checked.now.ranged).whole.few in search rules
 
-pub slice-bounds-front-end : goal.slice-bounds-front-end
-slice-bounds-front-end c = let few = (ranged _ c.args.checked.now.ranged).whole.few in let long = (ranged _ c.args.checked.now.ranged).whole.rated in search rules
+pub slice_bounds-front-end : goal.slice_bounds-front-end
+slice_bounds-front-end c = let few = (ranged _ c.args.checked.now.ranged).whole.few in let long = (ranged _ c.args.checked.now.ranged).whole.rated in search rules
 
-pub slice-bounds-copy-from-slice-end : goal.slice-bounds-copy-from-slice-end
-slice-bounds-copy-from-slice-end c = let few = (ranged _ c.args.checked.now.ranged).whole.few in search rules
+pub slice_bounds-copy_from_slice-end : goal.slice_bounds-copy_from_slice-end
+slice_bounds-copy_from_slice-end c = let few = (ranged _ c.args.checked.now.ranged).whole.few in search rules
 
-pub invariant-of-result : goal.invariant-of-result
-invariant-of-result c = (∣ good_by c.args.checked.now.net (ranged _ c.args.checked.now.ranged) c.args.z.now c.copy-from-slice.new.self c.told-z c.copy-from-slice.ensures.after c.requires ∣₁, tt)
+pub invariant_of-result : goal.invariant_of-result
+invariant_of-result c = record { good = ∣ good_by c.args.checked.now.net (ranged _ c.args.checked.now.ranged) c.args.z.now c.copy_from_slice.new.self c.told-z c.copy_from_slice.ensures.after c.requires ∣₁ }
 
 pub returns : goal.returns
-returns c = replaced_by c.args.checked.now.net (ranged _ c.args.checked.now.ranged) c.args.z.now c.copy-from-slice.new.self c.told-z c.copy-from-slice.ensures.after c.requires
+returns c = replaced_by c.args.checked.now.net (ranged _ c.args.checked.now.ranged) c.args.z.now c.copy_from_slice.new.self c.told-z c.copy_from_slice.ensures.after c.requires

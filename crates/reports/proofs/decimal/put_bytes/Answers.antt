@@ -11,7 +11,7 @@ returns c =
     let k = i + length ys - i in
     let long : k ≡ length ys = omega arith in
     record {
-      bytes = ap (put_mid i k xs) c.copy-from-slice.ensures.after
+      bytes = ap (put_mid i k xs) c.copy_from_slice.ensures.after
           ∙ ap (λ n. take i xs ++ (ys ++ drop n (drop i xs))) long ∙ ap (λ zs. take i xs ++ (ys ++ zs)) (drop-drop (length ys) i xs);
       end = refl;
     }

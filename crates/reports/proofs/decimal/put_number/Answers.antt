@@ -8,18 +8,18 @@ pub loop-m-init : goal.loop-m-init
 loop-m-init c =
     let xs = c.args.out.now in
     let ds = decimal c.args.n in
-    let w = c.digit-count-w.ensures in
+    let w = c.digit_count-w.ensures in
     let i = c.args.at in (
       omega arith,
       w,
       omega (arith, w),
-      take_all c.digit-count-w.result ds (omega (arith, w)),
+      take_all c.digit_count-w.result ds (omega (arith, w)),
       sym (take-append-drop (i + length ds) xs) ∙ ap (λ k. take (i + k) xs ++ drop (i + length ds) xs) (sym w)
-          ∙ ap (λ ys. take (i + c.digit-count-w.result) xs ++ (ys ++ drop (i + length ds) xs)) (sym (drop_all c.digit-count-w.result ds (omega (arith, w)))),
+          ∙ ap (λ ys. take (i + c.digit_count-w.result) xs ++ (ys ++ drop (i + length ds) xs)) (sym (drop_all c.digit_count-w.result ds (omega (arith, w)))),
     )
 
-pub overflow-sub-k : goal.overflow-sub-k
-overflow-sub-k c = omega (arith, c.loop-m.invariant.1, decimal_nonempty c.loop-m.m (omega arith))
+pub overflow_sub-k : goal.overflow_sub-k
+overflow_sub-k c = omega (arith, c.loop-m.invariant.1, decimal_nonempty c.loop-m.m (omega arith))
 
 pub bounds-out-at : goal.bounds-out-at
 bounds-out-at c = omega (arith, c.loop-m.invariant.1, c.loop-m.invariant.2, decimal_nonempty c.loop-m.m (omega arith))
@@ -55,5 +55,5 @@ returns c =
     let step = paste_step xs ds t i 1 (48 + m) (omega arith) (omega (arith, decimal_nonempty c.args.n (omega arith))) o.1 (omega arith) in
     record {
       bytes = ap (λ v. set c.loop-m.out i v) c.digit-2.ensures ∙ ap (λ ys. set ys i (48 + m)) (c.loop-m.invariant.4 ∙ ap (λ b. take (i + b) xs ++ (drop b ds ++ t)) o.0) ∙ (simp add-zero at step);
-      end = ap (λ k. i + k) c.digit-count-w.ensures;
+      end = ap (λ k. i + k) c.digit_count-w.ensures;
     }

@@ -15,8 +15,8 @@ returns-then-z-lt0 c =
     let o = c.args.out.now in
     let a = c.args.at in
     let neg : z <ℤ pos 0 = grind (arith, ints) in
-    let abs = c.unsigned-abs.ensures.value ∙ ap nat_abs (to_z-of_z w64 z c.ranges.z) in
-    let e : 45 ∷ decimal c.unsigned-abs.result ≡ signed_decimal z = ap (λ n. 45 ∷ decimal n) abs ∙ sym (signed_neg z neg) in
+    let abs = c.unsigned_abs.ensures.value ∙ ap nat_abs (to_z-of_z w64 z c.ranges.z) in
+    let e : 45 ∷ decimal c.unsigned_abs.result ≡ signed_decimal z = ap (λ n. 45 ∷ decimal n) abs ∙ sym (signed_neg z neg) in
     let room : a < length o = omega (arith, c.requires, ap length e) in
-    subst (λ ys. Wrote o a ys c.put-number.new.out c.put-number.result) e
-    (wrote_cons o c.put-number.new.out a 45 (decimal c.unsigned-abs.result) c.put-number.result room c.put-number.ensures)
+    subst (λ ys. Wrote o a ys c.put_number.new.out c.put_number.result) e
+    (wrote_cons o c.put_number.new.out a 45 (decimal c.unsigned_abs.result) c.put_number.result room c.put_number.ensures)

@@ -2,17 +2,17 @@ use Rattle.std.proofs.Common.{codes, decimal, arith}
 use Rattle.reports.proofs.Rows.{first_fits, second_fits, third_fits, wrote_three}
 use Rattle.reports.proofs.lines.count_line.Goals as goal
 
-pub put-bytes-named-requires : goal.put-bytes-named-requires
-put-bytes-named-requires c = first_fits c.args.out.now c.args.at c.args.name.now (decimal c.args.count) (codes "\n") c.requires
+pub put_bytes-named-requires : goal.put_bytes-named-requires
+put_bytes-named-requires c = first_fits c.args.out.now c.args.at c.args.name.now (decimal c.args.count) (codes "\n") c.requires
 
-pub put-number-counted-requires : goal.put-number-counted-requires
-put-number-counted-requires c = omega (arith, second_fits c.args.out.now c.args.at c.args.name.now (decimal c.args.count) (codes "\n") c.requires c.put-bytes-named.new.out c.put-bytes-named.result c.put-bytes-named.ensures)
+pub put_number-counted-requires : goal.put_number-counted-requires
+put_number-counted-requires c = omega (arith, second_fits c.args.out.now c.args.at c.args.name.now (decimal c.args.count) (codes "\n") c.requires c.put_bytes-named.new.out c.put_bytes-named.result c.put_bytes-named.ensures)
 
-pub put-bytes-requires : goal.put-bytes-requires
-put-bytes-requires c =
-    omega (arith, third_fits c.args.out.now c.args.at c.args.name.now (decimal c.args.count) (codes "\n") c.requires c.put-bytes-named.new.out c.put-number-counted.new.out c.put-bytes-named.result c.put-number-counted.result c.put-bytes-named.ensures c.put-number-counted.ensures)
+pub put_bytes-requires : goal.put_bytes-requires
+put_bytes-requires c =
+    omega (arith, third_fits c.args.out.now c.args.at c.args.name.now (decimal c.args.count) (codes "\n") c.requires c.put_bytes-named.new.out c.put_number-counted.new.out c.put_bytes-named.result c.put_number-counted.result c.put_bytes-named.ensures c.put_number-counted.ensures)
 
 pub returns : goal.returns
 returns c =
-    wrote_three c.args.out.now c.args.at c.args.name.now (decimal c.args.count) (codes "\n") c.requires c.put-bytes-named.new.out c.put-number-counted.new.out c.put-bytes.new.out
-    c.put-bytes-named.result c.put-number-counted.result c.put-bytes.result c.put-bytes-named.ensures c.put-number-counted.ensures c.put-bytes.ensures
+    wrote_three c.args.out.now c.args.at c.args.name.now (decimal c.args.count) (codes "\n") c.requires c.put_bytes-named.new.out c.put_number-counted.new.out c.put_bytes.new.out
+    c.put_bytes-named.result c.put_number-counted.result c.put_bytes.result c.put_bytes-named.ensures c.put_number-counted.ensures c.put_bytes.ensures

@@ -4,4 +4,4 @@ use Rattle.reports.proofs.lines.put_lettered.Goals as goal
 
 pub returns : goal.returns
 returns c =
-    wrote_cons c.args.out.now c.put-number.new.out c.args.at c.args.letter (decimal c.args.number) c.put-number.result (omega arith) c.put-number.ensures
+    wrote_cons c.args.out.now c.put_number.new.out c.args.at c.args.letter (decimal c.args.number) c.put_number.result (omega arith) c.put_number.ensures

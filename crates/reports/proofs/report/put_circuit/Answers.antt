@@ -21,22 +21,22 @@ fits : (o : List ℕ) (n : ℕ) (cs : List CircuitStep) → n ≤ 64 → 4_096 �
 fits o n cs h room small sized long =
     subst (λ m. 0 + length (bytes m (n - 0) cs) ≤ length o) (same n cs h long) (circuit_fits o room n (n - 0) (sub-zero n) h cs long small sized)
 
-pub count-line-counted-requires : goal.count-line-counted-requires
-count-line-counted-requires c = first_fits c.args.out.now 0 (line (codes "refused 20 ") (decimal c.args.count)) (line (codes "steps") (spaced (λ s. step_bytes s.step) (take (c.args.count - 0) c.args.steps.now))) (line (codes "lengths") (spaced (λ s. signed_decimal s.length) (take (c.args.count - 0) c.args.steps.now))) (fits c.args.out.now c.args.count c.args.steps.now c.requires.few c.requires.room c.requires.numbered c.requires.sized c.told-steps)
+pub count_line-counted-requires : goal.count_line-counted-requires
+count_line-counted-requires c = first_fits c.args.out.now 0 (line (codes "refused 20 ") (decimal c.args.count)) (line (codes "steps") (spaced (λ s. step_bytes s.step) (take (c.args.count - 0) c.args.steps.now))) (line (codes "lengths") (spaced (λ s. signed_decimal s.length) (take (c.args.count - 0) c.args.steps.now))) (fits c.args.out.now c.args.count c.args.steps.now c.requires.few c.requires.room c.requires.numbered c.requires.sized c.told-steps)
 
-pub step-line-listed-requires : goal.step-line-listed-requires
-step-line-listed-requires c =
-    omega (arith, second_fits c.args.out.now 0 (line (codes "refused 20 ") (decimal c.args.count)) (line (codes "steps") (spaced (λ s. step_bytes s.step) (take (c.args.count - 0) c.args.steps.now))) (line (codes "lengths") (spaced (λ s. signed_decimal s.length) (take (c.args.count - 0) c.args.steps.now))) (fits c.args.out.now c.args.count c.args.steps.now c.requires.few c.requires.room c.requires.numbered c.requires.sized c.told-steps) c.count-line-counted.new.out c.count-line-counted.result c.count-line-counted.ensures)
+pub step_line-listed-requires : goal.step_line-listed-requires
+step_line-listed-requires c =
+    omega (arith, second_fits c.args.out.now 0 (line (codes "refused 20 ") (decimal c.args.count)) (line (codes "steps") (spaced (λ s. step_bytes s.step) (take (c.args.count - 0) c.args.steps.now))) (line (codes "lengths") (spaced (λ s. signed_decimal s.length) (take (c.args.count - 0) c.args.steps.now))) (fits c.args.out.now c.args.count c.args.steps.now c.requires.few c.requires.room c.requires.numbered c.requires.sized c.told-steps) c.count_line-counted.new.out c.count_line-counted.result c.count_line-counted.ensures)
 
-pub length-line-requires : goal.length-line-requires
-length-line-requires c =
-    omega (arith, third_fits c.args.out.now 0 (line (codes "refused 20 ") (decimal c.args.count)) (line (codes "steps") (spaced (λ s. step_bytes s.step) (take (c.args.count - 0) c.args.steps.now))) (line (codes "lengths") (spaced (λ s. signed_decimal s.length) (take (c.args.count - 0) c.args.steps.now))) (fits c.args.out.now c.args.count c.args.steps.now c.requires.few c.requires.room c.requires.numbered c.requires.sized c.told-steps) c.count-line-counted.new.out c.step-line-listed.new.out c.count-line-counted.result c.step-line-listed.result c.count-line-counted.ensures c.step-line-listed.ensures)
+pub length_line-requires : goal.length_line-requires
+length_line-requires c =
+    omega (arith, third_fits c.args.out.now 0 (line (codes "refused 20 ") (decimal c.args.count)) (line (codes "steps") (spaced (λ s. step_bytes s.step) (take (c.args.count - 0) c.args.steps.now))) (line (codes "lengths") (spaced (λ s. signed_decimal s.length) (take (c.args.count - 0) c.args.steps.now))) (fits c.args.out.now c.args.count c.args.steps.now c.requires.few c.requires.room c.requires.numbered c.requires.sized c.told-steps) c.count_line-counted.new.out c.step_line-listed.new.out c.count_line-counted.result c.step_line-listed.result c.count_line-counted.ensures c.step_line-listed.ensures)
 
 pub returns : goal.returns
 returns c =
     let n = c.args.count in
     let cs = c.args.steps.now in
-    let W = wrote_three c.args.out.now 0 (line (codes "refused 20 ") (decimal c.args.count)) (line (codes "steps") (spaced (λ s. step_bytes s.step) (take (c.args.count - 0) c.args.steps.now))) (line (codes "lengths") (spaced (λ s. signed_decimal s.length) (take (c.args.count - 0) c.args.steps.now))) (fits c.args.out.now c.args.count c.args.steps.now c.requires.few c.requires.room c.requires.numbered c.requires.sized c.told-steps) c.count-line-counted.new.out c.step-line-listed.new.out c.length-line.new.out c.count-line-counted.result c.step-line-listed.result c.length-line.result
-    c.count-line-counted.ensures c.step-line-listed.ensures c.length-line.ensures in
-    subst (λ k. Wrote c.args.out.now 0 (circuit_bytes (take k cs)) c.length-line.new.out c.length-line.result) (sub-zero n)
-    (subst (λ m. Wrote c.args.out.now 0 (bytes m (n - 0) cs) c.length-line.new.out c.length-line.result) (sym (same n cs c.requires.few c.told-steps)) W)
+    let W = wrote_three c.args.out.now 0 (line (codes "refused 20 ") (decimal c.args.count)) (line (codes "steps") (spaced (λ s. step_bytes s.step) (take (c.args.count - 0) c.args.steps.now))) (line (codes "lengths") (spaced (λ s. signed_decimal s.length) (take (c.args.count - 0) c.args.steps.now))) (fits c.args.out.now c.args.count c.args.steps.now c.requires.few c.requires.room c.requires.numbered c.requires.sized c.told-steps) c.count_line-counted.new.out c.step_line-listed.new.out c.length_line.new.out c.count_line-counted.result c.step_line-listed.result c.length_line.result
+    c.count_line-counted.ensures c.step_line-listed.ensures c.length_line.ensures in
+    subst (λ k. Wrote c.args.out.now 0 (circuit_bytes (take k cs)) c.length_line.new.out c.length_line.result) (sub-zero n)
+    (subst (λ m. Wrote c.args.out.now 0 (bytes m (n - 0) cs) c.length_line.new.out c.length_line.result) (sym (same n cs c.requires.few c.told-steps)) W)
