@@ -52,7 +52,7 @@ fn step_edges<L: StepLength>(net: &Net, steps: &[Step], edges: &mut [Edge<L>])
     requires good { Good net.now }
     requires all { map of_step steps.now ≡ steps_of (of_net net.now) }
     requires room { length edges.old ≡ length steps.now }
-    ensures { edges.new ≡ map (edge_of (of_net net.now) (measured (of_net net.now))) (steps_of (of_net net.now)) }
+    ensures { edges.new ≡ map (edge_of (of_net net.now) (L.measured (of_net net.now))) (steps_of (of_net net.now)) }
 {
     for e in 0..steps.len() {
         edges[e] = L::edge(net, steps[e]);
@@ -71,7 +71,7 @@ pub(crate) fn search_steps<L: StepLength>(
     requires all { map of_step steps.now ≡ steps_of (of_net net.now) }
     requires room { length edges.old ≡ length steps.now }
     requires long { (length starts.old ≡ 64) × (length spare.old ≡ 64) }
-    ensures { Answered L.Joining.neutral L.Joining.joined L.OrderedLength.below net.now.stations (map (edge_of (of_net net.now) (measured (of_net net.now))) (steps_of (of_net net.now))) starts.new result }
+    ensures { Answered L.Joining.neutral L.Joining.joined L.OrderedLength.below net.now.stations (map (edge_of (of_net net.now) (L.measured (of_net net.now))) (steps_of (of_net net.now))) starts.new result }
 {
     step_edges(net, steps, edges);
     match least_starts(net.stations as usize, edges, starts, spare) {

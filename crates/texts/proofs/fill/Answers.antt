@@ -5,51 +5,51 @@ use Rattle.texts.proofs.Chains.{and_on, and_halt}
 use Rattle.texts.proofs.Fills.{fills_err, fills_ok}
 use Rattle.texts.proofs.fill.Goals as goal
 
-pub returns-in-err-counts : goal.returns-in-err-counts
+pub returns-in_err-counts : goal.returns-in_err-counts
 unfolding net_form
-returns-in-err-counts c =
-    let r = c.from-residual.result in
-    fills_err c.new-reader.result c.args.text.now c.new-reader.ensures _ r _ (err_from_is_err_and r c.from-residual.ensures.1)
-    (c.in-err-counts.ensures.reads after_sizes)
+returns-in_err-counts c =
+    let r = c.from_residual.result in
+    fills_err c.new-reader.result c.args.text.now c.new-reader.ensures _ r _ (err_from_is_err_and r c.from_residual.ensures.1)
+    (c.in_err-counts.ensures.reads after_sizes)
 
-pub returns-in-err-line : goal.returns-in-err-line
+pub returns-in_err-line : goal.returns-in_err-line
 unfolding net_form
-returns-in-err-line c =
-    let r = c.from-residual-in-err-line.result in
-    fills_err c.new-reader.result c.args.text.now c.new-reader.ensures _ r _ (err_from_is_err_and r c.from-residual-in-err-line.ensures.1)
-    (and_halt (c.in-ok-counts.ensures.reads after_sizes) (c.in-err-line.ensures.reads (after_durations c.in-ok-counts.counts)))
+returns-in_err-line c =
+    let r = c.from_residual-in_err-line.result in
+    fills_err c.new-reader.result c.args.text.now c.new-reader.ensures _ r _ (err_from_is_err_and r c.from_residual-in_err-line.ensures.1)
+    (and_halt (c.in_ok-counts.ensures.reads after_sizes) (c.in_err-line.ensures.reads (after_durations c.in_ok-counts.counts)))
 
-pub returns-in-err-line-2 : goal.returns-in-err-line-2
+pub returns-in_err-line-2 : goal.returns-in_err-line-2
 unfolding net_form
-returns-in-err-line-2 c =
-    let r = c.from-residual-in-err-line-2.result in
-    fills_err c.new-reader.result c.args.text.now c.new-reader.ensures _ r _ (err_from_is_err_and r c.from-residual-in-err-line-2.ensures.1)
-    (and_halt (c.in-ok-counts.ensures.reads after_sizes) (and_halt (c.in-ok-line.ensures.reads (after_durations c.in-ok-counts.counts)) (c.in-err-line-2.ensures.reads (after_ends c.in-ok-counts.counts (take c.in-ok-counts.counts.stations c.line.new.tables.durations)))))
+returns-in_err-line-2 c =
+    let r = c.from_residual-in_err-line-2.result in
+    fills_err c.new-reader.result c.args.text.now c.new-reader.ensures _ r _ (err_from_is_err_and r c.from_residual-in_err-line-2.ensures.1)
+    (and_halt (c.in_ok-counts.ensures.reads after_sizes) (and_halt (c.in_ok-line.ensures.reads (after_durations c.in_ok-counts.counts)) (c.in_err-line-2.ensures.reads (after_ends c.in_ok-counts.counts (take c.in_ok-counts.counts.stations c.line.new.tables.durations)))))
 
-pub returns-in-err-line-3 : goal.returns-in-err-line-3
+pub returns-in_err-line-3 : goal.returns-in_err-line-3
 unfolding net_form
-returns-in-err-line-3 c =
-    let r = c.from-residual-in-err-line-3.result in
-    fills_err c.new-reader.result c.args.text.now c.new-reader.ensures _ r _ (err_from_is_err_and r c.from-residual-in-err-line-3.ensures.1)
-    (and_halt (c.in-ok-counts.ensures.reads after_sizes) (and_halt (c.in-ok-line.ensures.reads (after_durations c.in-ok-counts.counts)) (and_halt (c.in-ok-line-2.ensures.reads (after_ends c.in-ok-counts.counts (take c.in-ok-counts.counts.stations c.line.new.tables.durations))) (c.in-err-line-3.ensures.reads (after_terms c.in-ok-counts.counts (take c.in-ok-counts.counts.stations c.line.new.tables.durations) (take c.in-ok-counts.counts.links c.line-2.new.tables.ends))))))
+returns-in_err-line-3 c =
+    let r = c.from_residual-in_err-line-3.result in
+    fills_err c.new-reader.result c.args.text.now c.new-reader.ensures _ r _ (err_from_is_err_and r c.from_residual-in_err-line-3.ensures.1)
+    (and_halt (c.in_ok-counts.ensures.reads after_sizes) (and_halt (c.in_ok-line.ensures.reads (after_durations c.in_ok-counts.counts)) (and_halt (c.in_ok-line-2.ensures.reads (after_ends c.in_ok-counts.counts (take c.in_ok-counts.counts.stations c.line.new.tables.durations))) (c.in_err-line-3.ensures.reads (after_terms c.in_ok-counts.counts (take c.in_ok-counts.counts.stations c.line.new.tables.durations) (take c.in_ok-counts.counts.links c.line-2.new.tables.ends))))))
 
-pub returns-in-err-end : goal.returns-in-err-end
+pub returns-in_err-end : goal.returns-in_err-end
 unfolding net_form
-returns-in-err-end c =
-    let r = c.from-residual-in-err-end.result in
-    fills_err c.new-reader.result c.args.text.now c.new-reader.ensures _ r _ (err_from_is_err_and r c.from-residual-in-err-end.ensures.1)
-    (and_halt (c.in-ok-counts.ensures.reads after_sizes) (and_halt (c.in-ok-line.ensures.reads (after_durations c.in-ok-counts.counts)) (and_halt (c.in-ok-line-2.ensures.reads (after_ends c.in-ok-counts.counts (take c.in-ok-counts.counts.stations c.line.new.tables.durations))) (and_halt (c.in-ok-line-3.ensures.reads (after_terms c.in-ok-counts.counts (take c.in-ok-counts.counts.stations c.line.new.tables.durations) (take c.in-ok-counts.counts.links c.line-2.new.tables.ends))) (c.in-err-end.ensures (record { sizes = c.in-ok-counts.counts; durations = take c.in-ok-counts.counts.stations c.line.new.tables.durations; ends = take c.in-ok-counts.counts.links c.line-2.new.tables.ends; terms = take c.in-ok-counts.counts.links c.line-3.new.tables.terms }))))))
+returns-in_err-end c =
+    let r = c.from_residual-in_err-end.result in
+    fills_err c.new-reader.result c.args.text.now c.new-reader.ensures _ r _ (err_from_is_err_and r c.from_residual-in_err-end.ensures.1)
+    (and_halt (c.in_ok-counts.ensures.reads after_sizes) (and_halt (c.in_ok-line.ensures.reads (after_durations c.in_ok-counts.counts)) (and_halt (c.in_ok-line-2.ensures.reads (after_ends c.in_ok-counts.counts (take c.in_ok-counts.counts.stations c.line.new.tables.durations))) (and_halt (c.in_ok-line-3.ensures.reads (after_terms c.in_ok-counts.counts (take c.in_ok-counts.counts.stations c.line.new.tables.durations) (take c.in_ok-counts.counts.links c.line-2.new.tables.ends))) (c.in_err-end.ensures (record { sizes = c.in_ok-counts.counts; durations = take c.in_ok-counts.counts.stations c.line.new.tables.durations; ends = take c.in_ok-counts.counts.links c.line-2.new.tables.ends; terms = take c.in_ok-counts.counts.links c.line-3.new.tables.terms }))))))
 
 pub returns : goal.returns
 unfolding net_form
 returns c =
-    let s = c.in-ok-counts.counts in
-    let k1 = c.in-ok-line.ensures.kept in
-    let k2 = c.in-ok-line-2.ensures.kept in
-    let k3 = c.in-ok-line-3.ensures.kept in
+    let s = c.in_ok-counts.counts in
+    let k1 = c.in_ok-line.ensures.kept in
+    let k2 = c.in_ok-line-2.ensures.kept in
+    let k3 = c.in_ok-line-3.ensures.kept in
     let sizes : c.in-Ok-next-3.filled.sizes ≡ s =
-    c.in-Ok-next-3.ensures.1 ∙ k3.1 ∙ c.in-Ok-next-2.ensures.1 ∙ k2.1 ∙ c.in-Ok-next.ensures.1 ∙ k1.1 ∙ c.in-Ok.ensures.1 ∙ c.in-ok-counts.ensures.kept.1 in
+    c.in-Ok-next-3.ensures.1 ∙ k3.1 ∙ c.in-Ok-next-2.ensures.1 ∙ k2.1 ∙ c.in-Ok-next.ensures.1 ∙ k1.1 ∙ c.in-Ok.ensures.1 ∙ c.in_ok-counts.ensures.kept.1 in
     fills_ok s c.args.tables.now c.line.new.tables c.line-2.new.tables c.line-3.new.tables c.requires k1.2 k2.2 k3.2 k1.3 k2.3 k3.3
     c.new-reader.result c.line-3.new.self c.args.text.now c.new-reader.ensures
-    (and_on (c.in-ok-counts.ensures.reads after_sizes) (and_on (c.in-ok-line.ensures.reads (after_durations c.in-ok-counts.counts)) (and_on (c.in-ok-line-2.ensures.reads (after_ends c.in-ok-counts.counts (take c.in-ok-counts.counts.stations c.line.new.tables.durations))) (c.in-ok-line-3.ensures.reads (after_terms c.in-ok-counts.counts (take c.in-ok-counts.counts.stations c.line.new.tables.durations) (take c.in-ok-counts.counts.links c.line-2.new.tables.ends))))))
-    c.in-ok-end.ensures c.in-Ok-next-3.filled sizes
+    (and_on (c.in_ok-counts.ensures.reads after_sizes) (and_on (c.in_ok-line.ensures.reads (after_durations c.in_ok-counts.counts)) (and_on (c.in_ok-line-2.ensures.reads (after_ends c.in_ok-counts.counts (take c.in_ok-counts.counts.stations c.line.new.tables.durations))) (c.in_ok-line-3.ensures.reads (after_terms c.in_ok-counts.counts (take c.in_ok-counts.counts.stations c.line.new.tables.durations) (take c.in_ok-counts.counts.links c.line-2.new.tables.ends))))))
+    c.in_ok-end.ensures c.in-Ok-next-3.filled sizes

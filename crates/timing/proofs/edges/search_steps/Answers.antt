@@ -14,11 +14,11 @@ unreachable-requires g c =
     let J = g.L.Joining in
     let s = searched N w J.neutral J.size J.largest G.sound G.range.few (λ z h. g.met.L.StepLength.roomy N G.sound G.range z h) in
     let k = subst (λ n. Searchable J.neutral J.size J.largest n (edges_of N w)) (stations_are c.args.net.now G) s in
-    let r = subst (Searchable J.neutral J.size J.largest c.args.net.now.stations) (sym c.step-edges.ensures) k in
+    let r = subst (Searchable J.neutral J.size J.largest c.args.net.now.stations) (sym c.step_edges.ensures) k in
     c.in-None.ensures.asked (r, c.requires.long.0, c.requires.long.1)
 
 pub returns : goal.returns
 returns g c =
     let J = g.L.Joining in
-    subst (λ z. Answered J.neutral J.joined g.L.OrderedLength.below c.args.net.now.stations z c.least-starts.new.starts c.in-Some.outcome) c.step-edges.ensures
+    subst (λ z. Answered J.neutral J.joined g.L.OrderedLength.below c.args.net.now.stations z c.least_starts.new.starts c.in-Some.outcome) c.step_edges.ensures
     c.in-Some.ensures.answered

@@ -4,14 +4,14 @@ use Rattle.timing.specs.Pacing.{pair_of}
 use Rattle.timing.proofs.Raising.{step_has, join_room, join_more}
 use Rattle.timing.proofs.pace.circuit_pair.Goals as goal
 
-pub step-edge-edge-requires : goal.step-edge-edge-requires
-step-edge-edge-requires c = record { good = c.requires.good; has = step_has c.args.net.now c.requires.good c.args.circuit.now c.requires.refused c.loop-t.t c.loop-t-test.true }
+pub step_edge-edge-requires : goal.step_edge-edge-requires
+step_edge-edge-requires c = record { good = c.requires.good; has = step_has c.args.net.now c.requires.good c.args.circuit.now c.requires.refused c.loop-t.t c.loop-t-test.true }
 
 pub join-sum-requires : goal.join-sum-requires
-join-sum-requires c = join_room c.args.net.now c.requires.good c.args.circuit.now c.requires.refused c.loop-t.t c.loop-t-test.true c.loop-t.sum c.loop-t.invariant c.step-edge-edge.result c.step-edge-edge.ensures
+join-sum-requires c = join_room c.args.net.now c.requires.good c.args.circuit.now c.requires.refused c.loop-t.t c.loop-t-test.true c.loop-t.sum c.loop-t.invariant c.step_edge-edge.result c.step_edge-edge.ensures
 
 pub loop-t-preserved : goal.loop-t-preserved
-loop-t-preserved c = c.join-sum.ensures ∙ join_more c.args.net.now c.requires.good c.args.circuit.now c.requires.refused c.loop-t.t c.loop-t-test.true c.loop-t.sum c.loop-t.invariant c.step-edge-edge.result c.step-edge-edge.ensures
+loop-t-preserved c = c.join-sum.ensures ∙ join_more c.args.net.now c.requires.good c.args.circuit.now c.requires.refused c.loop-t.t c.loop-t-test.true c.loop-t.sum c.loop-t.invariant c.step_edge-edge.result c.step_edge-edge.ensures
 
 pub returns : goal.returns
 returns c =

@@ -6,14 +6,14 @@ use Rattle.timing.specs.declared.Raised.TheVariants.{Enough, To, Never}
 use Rattle.timing.proofs.Paced.{good_at, named_in_range, raises_back, own_named, fastest_named_lem, divisor_some, falls, no_pace}
 use Rattle.timing.proofs.pace.fastest_of.Goals as goal
 
-pub returns-then-pairs-above : goal.returns-then-pairs-above
-returns-then-pairs-above c = no_pace c.args.net.now c.requires.good (c.pairs-above.ensures.above c.if-pairs-above.true)
+pub returns-then-pairs_above : goal.returns-then-pairs_above
+returns-then-pairs_above c = no_pace c.args.net.now c.requires.good (c.pairs_above.ensures.above c.if-pairs_above.true)
 
 pub loop-pace-init : goal.loop-pace-init
-loop-pace-init c = (refl, own_named c.args.net.now c.requires.good c.first-pace-at.result c.first-pace-at.ensures)
+loop-pace-init c = (refl, own_named c.args.net.now c.requires.good c.first_pace-at.result c.first_pace-at.ensures)
 
-pub raise-net-requires : goal.raise-net-requires
-raise-net-requires c =
+pub raise_net-requires : goal.raise_net-requires
+raise_net-requires c =
     let i = c.loop-pace.invariant in
     record { good = subst Good (sym i.0) (good_at c.args.net.now c.requires.good c.loop-pace.at.pace (named_in_range (of_net c.args.net.now) c.loop-pace.at.pace i.1)) }
 

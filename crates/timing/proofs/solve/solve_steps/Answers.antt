@@ -12,7 +12,7 @@ tell-requires c =
     }
 
 pub returns-in-Starts : goal.returns-in-Starts
-returns-in-Starts c = timed c.args.net.now c.requires.good c.search-steps.new.starts c.search-steps.auto.starts c.in-Starts.ensures c.take-starts.result c.take-starts.ensures
+returns-in-Starts c = timed c.args.net.now c.requires.good c.search_steps.new.starts c.search_steps.auto.starts c.in-Starts.ensures c.take_starts.result c.take_starts.ensures
 
 pub returns-in-Above : goal.returns-in-Above
 returns-in-Above c =

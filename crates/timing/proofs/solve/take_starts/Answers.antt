@@ -9,9 +9,9 @@ pub loop-y-preserved : goal.loop-y-preserved
 loop-y-preserved c =
     let t = c.loop-y-test.true in
     let few = c.requires in
-    front_more (map start_of (take c.args.stations c.args.best.now)) (replicate 64 0) c.loop-y.ticks c.loop-y.y c.loop-y.invariant 0 c.start-at.result
+    front_more (map start_of (take c.args.stations c.args.best.now)) (replicate 64 0) c.loop-y.ticks c.loop-y.y c.loop-y.invariant 0 c.start_at.result
     (omega (arith, starts_long c.args.best.now c.args.stations (omega arith))) (omega (arith, length-replicate {A = ℕ} 64 0))
-    (c.start-at.ensures ∙ sym (start_read c.args.best.now c.args.stations c.loop-y.y t (omega arith)))
+    (c.start_at.ensures ∙ sym (start_read c.args.best.now c.args.stations c.loop-y.y t (omega arith)))
 
 pub returns : goal.returns
 returns c =

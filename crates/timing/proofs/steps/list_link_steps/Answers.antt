@@ -14,8 +14,8 @@ loop-k-preserved c =
     let k = c.loop-k.k in
     elim c.match-slot.branch [
       | goal.in-Some+in-Some-capacity w ↦ (c.match-slot.array_long, omega (arith, w.count-is), turn_two N k c.loop-k.steps _ c.loop-k.count _ p.2 (omega arith) (of_link w.in-Some.l) w.in-Some-capacity.field-0 (opened c.args.net.now k w.in-Some.l w.in-Some.is) w.in-Some-capacity.is w.steps-is w.count-is)
-      | goal.in-Some+in-default-capacity w ↦ (c.match-slot.array_long, omega (arith, w.count-is), turn_one N k c.loop-k.steps _ c.loop-k.count _ p.2 (omega arith) (of_link w.in-Some.l) (opened c.args.net.now k w.in-Some.l w.in-Some.is) w.in-default-capacity.is w.steps-is w.count-is)
-      | goal.in-default w ↦ (c.match-slot.array_long, omega (arith, w.count-is), turn_none N k c.loop-k.steps _ c.loop-k.count _ p.2 (closed c.args.net.now k w.in-default.is) w.steps-is w.count-is)
+      | goal.in-Some+in_default-capacity w ↦ (c.match-slot.array_long, omega (arith, w.count-is), turn_one N k c.loop-k.steps _ c.loop-k.count _ p.2 (omega arith) (of_link w.in-Some.l) (opened c.args.net.now k w.in-Some.l w.in-Some.is) w.in_default-capacity.is w.steps-is w.count-is)
+      | goal.in_default w ↦ (c.match-slot.array_long, omega (arith, w.count-is), turn_none N k c.loop-k.steps _ c.loop-k.count _ p.2 (closed c.args.net.now k w.in_default.is) w.steps-is w.count-is)
     ]
 
 pub returns : goal.returns

@@ -11,13 +11,13 @@ use Rattle.texts.proofs.reader.Reader.line.Goals as goal
 abbrev last : {X : Type 0} → (List X → NetForm) → List X → NetForm
 last k xs = mark 10 (k xs)
 
-pub returns-in-err-name : goal.returns-in-err-name
-returns-in-err-name g c =
-    let r = c.from-residual.result in
+pub returns-in_err-name : goal.returns-in_err-name
+returns-in_err-name g c =
+    let r = c.from_residual.result in
     let form = g.S.Rows.form c.args.stations in
     record {
-      reads = λ k. leave_filled r _ _ k c.name.new.self (err_from_is_err_and r c.from-residual.ensures.1) (c.in-err-name.ensures (λ _. rows form c.args.count [] (last k)));
-      kept = IfOk-from_err r _ c.from-residual.ensures.0;
+      reads = λ k. leave_filled r _ _ k c.name.new.self (err_from_is_err_and r c.from_residual.ensures.1) (c.in_err-name.ensures (λ _. rows form c.args.count [] (last k)));
+      kept = IfOk-from_err r _ c.from_residual.ensures.0;
     }
 
 pub loop-init : goal.loop-init
@@ -36,16 +36,16 @@ row-requires g c =
       wide = omega (arith, c.loop.invariant.0, c.loop.invariant.4, c.requires.wide, c.loop-test.true);
     }
 
-pub returns-in-err-row : goal.returns-in-err-row
-returns-in-err-row g c =
-    let r = c.from-residual-in-err-row.result in
+pub returns-in_err-row : goal.returns-in_err-row
+returns-in_err-row g c =
+    let r = c.from_residual-in_err-row.result in
     let form = g.S.Rows.form c.args.stations in
     let xs = g.S.Rows.column c.loop.tables in
     record {
-      reads = λ k. leave_filled r _ _ k c.row.new.reader (err_from_is_err_and r c.from-residual-in-err-row.ensures.1)
-          (and_halt (c.in-ok-name.ensures (λ _. rows form c.args.count [] (last k))) (and_halt (c.loop.invariant.5 (last k))
-          (row_halt form xs _ c.loop.counter c.args.count c.loop.invariant.0 c.loop-test.true (last k) c.loop.self c.row.new.reader [] _ c.in-err-row.ensures.reads)));
-      kept = IfOk-from_err r _ c.from-residual-in-err-row.ensures.0;
+      reads = λ k. leave_filled r _ _ k c.row.new.reader (err_from_is_err_and r c.from_residual-in_err-row.ensures.1)
+          (and_halt (c.in_ok-name.ensures (λ _. rows form c.args.count [] (last k))) (and_halt (c.loop.invariant.5 (last k))
+          (row_halt form xs _ c.loop.counter c.args.count c.loop.invariant.0 c.loop-test.true (last k) c.loop.self c.row.new.reader [] _ c.in_err-row.ensures.reads)));
+      kept = IfOk-from_err r _ c.from_residual-in_err-row.ensures.0;
     }
 
 pub loop-preserved : goal.loop-preserved
@@ -53,7 +53,7 @@ loop-preserved g c =
     let form = g.S.Rows.form c.args.stations in
     let xs = g.S.Rows.column c.loop.tables in
     let ys = g.S.Rows.column c.row.new.tables in
-    let kept = c.in-ok-row.ensures.kept in
+    let kept = c.in_ok-row.ensures.kept in
     let held : g.S.Rows.held c.row.new.self ≡ c.loop.counter + 1 = kept.0 ∙ ap (λ n. n + 1) c.loop.invariant.0 in (
       held,
       kept.1 ∙ c.loop.invariant.1,
@@ -61,7 +61,7 @@ loop-preserved g c =
       row_behind xs ys _ c.args.count (omega (arith, held, c.loop-test.true)) kept.3 ∙ c.loop.invariant.3,
       kept.4 ∙ c.loop.invariant.4,
       λ k. and_on (c.loop.invariant.5 k)
-          (row_on form xs _ c.loop.counter c.args.count c.loop.invariant.0 c.loop-test.true k c.loop.self c.row.new.reader ys _ kept.0 c.in-ok-row.ensures.reads),
+          (row_on form xs _ c.loop.counter c.args.count c.loop.invariant.0 c.loop-test.true k c.loop.self c.row.new.reader ys _ kept.0 c.in_ok-row.ensures.reads),
     )
 
 pub returns : goal.returns
@@ -72,7 +72,7 @@ returns g c =
     let all : c.loop.counter ≡ n = omega (arith, c.loop-test.false, c.loop.auto.counter-end) in
     record {
       reads = λ k. find_filled c.args.self.now (line c.args.name.now form n k) c.mark.result (take n xs) k c.mark.new.self
-          (and_find (and_on (c.in-ok-name.ensures (λ _. rows form n [] (last k))) (and_on (c.loop.invariant.5 (last k)) (goes_none (row_last form xs c.loop.counter n all (last k)))))
+          (and_find (and_on (c.in_ok-name.ensures (λ _. rows form n [] (last k))) (and_on (c.loop.invariant.5 (last k)) (goes_none (row_last form xs c.loop.counter n all (last k)))))
           c.mark.result (λ _. k (take n xs)) c.mark.new.self (c.mark.ensures (λ _. k (take n xs))));
       kept = made_any c.mark.result _ (λ _. (c.loop.invariant.0 ∙ all, c.loop.invariant.1, c.loop.invariant.2, c.loop.invariant.3));
     }

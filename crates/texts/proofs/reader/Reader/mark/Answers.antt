@@ -6,8 +6,8 @@ use Rattle.texts.proofs.Steps.{sign_here, run_mark_yes, run_sign_no}
 use Rattle.texts.proofs.Chains.{halts_form}
 use Rattle.texts.proofs.reader.Reader.mark.Goals as goal
 
-pub invariant-of-self : goal.invariant-of-self
-invariant-of-self c =
+pub invariant_of-self : goal.invariant_of-self
+invariant_of-self c =
     let e : c.peek.result ≡ Sign c.args.m = search rules in
     let h = sign_here c.args.self.now.at c.args.self.now.text.now c.args.m (sym c.peek.ensures ∙ e) in
     omega (arith, h.0)

@@ -11,19 +11,19 @@ use Rattle.texts.proofs.Steps.{digit_here, no_digit_here, first_here, capped_on,
 use Rattle.texts.proofs.Asked.{numbered_none, numbered_led, numbered_value}
 use Rattle.texts.proofs.reader.Reader.number.Goals as goal
 
-pub returns-in-default : goal.returns-in-default
-returns-in-default c =
+pub returns-in_default : goal.returns-in_default
+returns-in_default c =
     let x = c.args.self.now in
     let w = c.word.result in
     let h = c.word.ensures in
     record {
-      reads = numbered_none x x (Form w) (no_digit_here (rest x) (λ d e. c.in-default.not-Digit d (c.peek.ensures ∙ e)))
+      reads = numbered_none x x (Form w) (no_digit_here (rest x) (λ d e. c.in_default.not-Digit d (c.peek.ensures ∙ e)))
           (ap broken h.1) (h.0 ∙ ap (λ n. word_of (drop n x.text.now)) (sym h.1));
       same = refl;
     }
 
-pub invariant-of-self : goal.invariant-of-self
-invariant-of-self c = omega (arith, (digit_here c.args.self.now.at c.args.self.now.text.now c.in-Digit.first (sym c.in-Digit.ensures)).0)
+pub invariant_of-self : goal.invariant_of-self
+invariant_of-self c = omega (arith, (digit_here c.args.self.now.at c.args.self.now.text.now c.in-Digit.first (sym c.in-Digit.ensures)).0)
 
 pub returns-then-first-eq0 : goal.returns-then-first-eq0
 returns-then-first-eq0 c =
@@ -42,8 +42,8 @@ returns-then-first-eq0 c =
     let worded : Worded t (Form w) = subst (λ s. Worded s (Form w)) c.loop-d.invariant.0 (h.0 ∙ ap (λ n. word_of (drop n y.text.now)) (sym h.1)) in
     record { reads = numbered_led x y t refl a.0 (Form w) zero here (ap broken (h.1 ∙ p)) worded; same = c.loop-d.invariant.0 }
 
-pub invariant-of-self-in-Digit-peek : goal.invariant-of-self-in-Digit-peek
-invariant-of-self-in-Digit-peek c = omega (arith, (digit_here c.loop-d.self.at c.loop-d.self.text.now c.in-Digit-peek.d (sym c.in-Digit-peek.ensures)).0)
+pub invariant_of-self-in-Digit-peek : goal.invariant_of-self-in-Digit-peek
+invariant_of-self-in-Digit-peek c = omega (arith, (digit_here c.loop-d.self.at c.loop-d.self.text.now c.in-Digit-peek.d (sym c.in-Digit-peek.ensures)).0)
 
 pub loop-d-preserved : goal.loop-d-preserved
 loop-d-preserved c =
@@ -52,9 +52,9 @@ loop-d-preserved c =
     let b = digit_here i s c.in-Digit-peek.d (sym c.in-Digit-peek.ensures) in
     let lead = leading_more s i b.0 b.1 in
     let value = value_more c.loop-d.n s i b.0 b.1 in
-    let cap : min c.saturating-add-n.result (2 ^ 64 - 1) ≡ min (c.loop-d.n * 10 + (get_or s i 0 - 48)) (2 ^ 64 - 1) = omega (arith, b.2, c.saturating-mul.ensures, c.saturating-add-n.ensures) in (
+    let cap : min c.saturating_add-n.result (2 ^ 64 - 1) ≡ min (c.loop-d.n * 10 + (get_or s i 0 - 48)) (2 ^ 64 - 1) = omega (arith, b.2, c.saturating_mul.ensures, c.saturating_add-n.ensures) in (
       c.loop-d.invariant.0,
-      omega (arith, c.saturating-add-n.ensures),
+      omega (arith, c.saturating_add-n.ensures),
       omega (arith, lead, c.loop-d.invariant.2),
       capped_on _ _ (drop (i + 1) s) cap ∙ ap (λ k. min k (2 ^ 64 - 1)) (sym value) ∙ c.loop-d.invariant.3,
       λ z. absurd (c.if-first-eq0.false z),
@@ -66,7 +66,7 @@ returns c =
     let t = x.text.now in
     let y = c.loop-d.self in
     let a = digit_here x.at t c.in-Digit.first (sym c.in-Digit.ensures) in
-    let stop : digit_first (rest y) ≡ false = no_digit_here (rest y) (λ d e. c.in-default-peek.not-Digit d (c.peek-in-loop-d.ensures ∙ e)) in
+    let stop : digit_first (rest y) ≡ false = no_digit_here (rest y) (λ d e. c.in_default-peek.not-Digit d (c.peek-in-loop-d.ensures ∙ e)) in
     let same = c.loop-d.invariant.0 in
     record {
       reads = numbered_value x y t refl a.0 c.loop-d.n a.1

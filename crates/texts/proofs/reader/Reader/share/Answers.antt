@@ -4,13 +4,13 @@ use Rattle.drafts.specs.Faults.{range_fault}
 use Rattle.texts.proofs.Asked.{range_bounds, judged_judges, asks_err, asks_placed}
 use Rattle.texts.proofs.reader.Reader.share.Goals as goal
 
-pub returns-in-err-value : goal.returns-in-err-value
-returns-in-err-value c =
-    asks_err c.args.self.now c.number.new.self (range_fault 3 1 1_000_000) (range_bounds 3 1 1_000_000 (omega arith)) _ c.in-err-value.ensures.reads
-    c.from-residual.result (err_from_is_err_and c.from-residual.result c.from-residual.ensures.1)
+pub returns-in_err-value : goal.returns-in_err-value
+returns-in_err-value c =
+    asks_err c.args.self.now c.number.new.self (range_fault 3 1 1_000_000) (range_bounds 3 1 1_000_000 (omega arith)) _ c.in_err-value.ensures.reads
+    c.from_residual.result (err_from_is_err_and c.from_residual.result c.from_residual.ensures.1)
 
 pub returns : goal.returns
 returns c =
-    let n = c.in-ok-value.value in
-    asks_placed c.args.self.now c.number.new.self (range_fault 3 1 1_000_000) (range_bounds 3 1 1_000_000 (omega arith)) n c.in-ok-value.ensures.reads c.in-ok-value.ensures.same
+    let n = c.in_ok-value.value in
+    asks_placed c.args.self.now c.number.new.self (range_fault 3 1 1_000_000) (range_bounds 3 1 1_000_000 (omega arith)) n c.in_ok-value.ensures.reads c.in_ok-value.ensures.same
     c.share.result (judged_judges 3 1 1_000_000 n c.share.result c.share.ensures) c.placed.result c.placed.ensures
