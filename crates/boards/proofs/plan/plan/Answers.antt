@@ -3,12 +3,12 @@ use Rattle.nets.specs.declared.Step.TheVariants.{Forward}
 use Rattle.boards.proofs.Reporting.{planned_within, shown, tellable, text_told, refusal_told}
 use Rattle.boards.proofs.plan.plan.Goals as goal
 
-pub report-refused-requires : goal.report-refused-requires
-report-refused-requires c = tellable c.args.text.now c.new-board.result c.load-text.new.self (replicate 64 (record { step = Forward 0; length = pos 0 })) c.load-text.new.list refl (omega arith) c.in-Err.fault c.in-Err.ensures c.in-Board.refusal c.in-Board.is
+pub report_refused-requires : goal.report_refused-requires
+report_refused-requires c = tellable c.args.text.now c.new-board.result c.load_text.new.self (replicate 64 (record { step = Forward 0; length = pos 0 })) c.load_text.new.list refl (omega arith) c.in-Err.fault c.in-Err.ensures c.in-Board.refusal c.in-Board.is
 
-pub returns-in-default : goal.returns-in-default
-returns-in-default c =
-    let P = shown c.args.text.now c.args.out.now c.report.new.out c.report.result c.new-board.result c.load-text.new.self (replicate 64 (record { step = Forward 0; length = pos 0 })) c.load-text.new.list c.in-default.ensures c.report.ensures in
+pub returns-in_default : goal.returns-in_default
+returns-in_default c =
+    let P = shown c.args.text.now c.args.out.now c.report.new.out c.report.result c.new-board.result c.load_text.new.self (replicate 64 (record { step = Forward 0; length = pos 0 })) c.load_text.new.list c.in_default.ensures c.report.ensures in
     record {
       planned = P;
       within = planned_within c.args.text.now c.args.out.now c.report.new.out c.report.result (omega arith) P;
@@ -16,16 +16,16 @@ returns-in-default c =
 
 pub returns-in-Text : goal.returns-in-Text
 returns-in-Text c =
-    let P = text_told c.args.text.now c.new-board.result c.load-text.new.self (replicate 64 (record { step = Forward 0; length = pos 0 })) c.load-text.new.list refl (omega arith) c.in-Err.fault c.in-Err.ensures c.args.out.now c.report-refusal.new.out c.report-refusal.result c.in-Text.fault c.told-number.result c.in-Text.is c.told-number.ensures c.report-refusal.ensures in
+    let P = text_told c.args.text.now c.new-board.result c.load_text.new.self (replicate 64 (record { step = Forward 0; length = pos 0 })) c.load_text.new.list refl (omega arith) c.in-Err.fault c.in-Err.ensures c.args.out.now c.report_refusal.new.out c.report_refusal.result c.in-Text.fault c.told-number.result c.in-Text.is c.told-number.ensures c.report_refusal.ensures in
     record {
       planned = P;
-      within = planned_within c.args.text.now c.args.out.now c.report-refusal.new.out c.report-refusal.result (omega arith) P;
+      within = planned_within c.args.text.now c.args.out.now c.report_refusal.new.out c.report_refusal.result (omega arith) P;
     }
 
 pub returns-in-Board : goal.returns-in-Board
 returns-in-Board c =
-    let P = refusal_told c.args.text.now c.new-board.result c.load-text.new.self (replicate 64 (record { step = Forward 0; length = pos 0 })) c.load-text.new.list refl (omega arith) c.in-Err.fault c.in-Err.ensures c.args.out.now c.report-refused.new.out c.report-refused.result c.in-Board.refusal c.in-Board.is c.report-refused.ensures in
+    let P = refusal_told c.args.text.now c.new-board.result c.load_text.new.self (replicate 64 (record { step = Forward 0; length = pos 0 })) c.load_text.new.list refl (omega arith) c.in-Err.fault c.in-Err.ensures c.args.out.now c.report_refused.new.out c.report_refused.result c.in-Board.refusal c.in-Board.is c.report_refused.ensures in
     record {
       planned = P;
-      within = planned_within c.args.text.now c.args.out.now c.report-refused.new.out c.report-refused.result (omega arith) P;
+      within = planned_within c.args.text.now c.args.out.now c.report_refused.new.out c.report_refused.result (omega arith) P;
     }

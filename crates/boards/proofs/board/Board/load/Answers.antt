@@ -3,18 +3,18 @@ use Rattle.nets.specs.Views.{of_net}
 use Rattle.boards.proofs.Writing.{written}
 use Rattle.boards.proofs.board.Board.load.Goals as goal
 
-pub invariant-of-self : goal.invariant-of-self
-invariant-of-self c = (∣ c.in-Ok.ensures.least ∣₁, tt)
+pub invariant_of-self : goal.invariant_of-self
+invariant_of-self c = record { least = ∣ c.in-Ok.ensures.least ∣₁ }
 
 pub returns-in-Err : goal.returns-in-Err
 returns-in-Err c =
     let R = c.in-Err.ensures in
-    let f : c.copy-from-slice.new.self ≡ take c.in-Err.circuit.count c.in-Err.circuit.steps = search rules in (
+    let f : c.copy_from_slice.new.self ≡ take c.in-Err.circuit.count c.in-Err.circuit.steps = search rules in (
       c.if-list-lt64.false,
       (
-        of_net c.in-ok-net.net.net,
-        c.in-ok-net.ensures,
-        written (of_net c.in-ok-net.net.net) c.in-Err.circuit.count c.args.list.now c.in-Err.circuit.steps c.copy-from-slice.new.self _ R.few R.long f (search rules) R.told,
+        of_net c.in_ok-net.net.net,
+        c.in_ok-net.ensures,
+        written (of_net c.in_ok-net.net.net) c.in-Err.circuit.count c.args.list.now c.in-Err.circuit.steps c.copy_from_slice.new.self _ R.few R.long f (search rules) R.told,
       ),
       refl,
     )

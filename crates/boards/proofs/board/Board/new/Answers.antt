@@ -4,8 +4,8 @@ use Rattle.nets.specs.Views.{of_net, Good}
 use Rattle.boards.proofs.Beginning.{new_good, new_least}
 use Rattle.boards.proofs.board.Board.new.Goals as goal
 
-pub invariant-of-net : goal.invariant-of-net
-invariant-of-net c = (∣ subst Good (sym c.new-net.ensures) new_good ∣₁, tt)
+pub invariant_of-net : goal.invariant_of-net
+invariant_of-net c = record { good = ∣ subst Good (sym c.new_net.ensures) new_good ∣₁ }
 
-pub invariant-of-result : goal.invariant-of-result
-invariant-of-result c = (∣ subst (λ N. Least (of_net N) (take N.stations (replicate 64 0))) (sym c.new-net.ensures) new_least ∣₁, tt)
+pub invariant_of-result : goal.invariant_of-result
+invariant_of-result c = record { least = ∣ subst (λ N. Least (of_net N) (take N.stations (replicate 64 0))) (sym c.new_net.ensures) new_least ∣₁ }

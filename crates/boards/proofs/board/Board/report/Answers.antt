@@ -4,5 +4,5 @@ use Rattle.boards.proofs.board.Board.report.Goals as goal
 pub periods-periods-requires : goal.periods-periods-requires
 periods-periods-requires c = (good c.args.self.now.net.net c.args.self.now.net.good).whole.few
 
-pub invariant-of-timetable : goal.invariant-of-timetable
-invariant-of-timetable c = ((good c.args.self.now.net.net c.args.self.now.net.good).whole.few, tt)
+pub invariant_of-timetable : goal.invariant_of-timetable
+invariant_of-timetable c = record { few = (good c.args.self.now.net.net c.args.self.now.net.good).whole.few }
