@@ -1,7 +1,7 @@
 -- The new board's net is sound, and its station can start at once. Assumes nothing.
-use Rattle.std.proofs.Common.{◌≡◌, ℕ, zero, suc, ◌*◌, ◌<◌, ◌≤◌, List, [], ◌∷◌, get_or, refl, arith, lit≤}
-use Rattle.rules.specs.Net.{Timetable, Fits, Sound, start, whole}
-use Rattle.rules.specs.Rules.{Keeps, Least}
+use Rattle.std.proofs.Common.{ℕ, zero, suc, ◌*◌, ◌<◌, ◌≤◌, [], ◌∷◌, get_or, refl, arith, lit≤}
+use Rattle.rules.specs.Net.{Fits, Sound, start, whole}
+use Rattle.rules.specs.Rules.{Least}
 use Rattle.rules.proofs.Tested.{sound_tested, keeps_tested, range_tested}
 use Rattle.nets.specs.Views.{of_net, Good}
 use Rattle.boards.specs.Showing.{new_net_lem}

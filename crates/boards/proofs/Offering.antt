@@ -1,6 +1,5 @@
 -- The net that a draft offers, step by step. Assumes nothing.
-use Rattle.std.proofs.Common.{◌≡◌, ℕ, List, take, None, Ok, Err, Result, sym, ap, ◌∙◌, subst}
-use Rattle.rules.specs.Net as rules
+use Rattle.std.proofs.Common.{◌≡◌, take, None, Err, Result, sym, ap, ◌∙◌, subst}
 use Rattle.rules.specs.Rates.{Joined, CutOff, NoRates}
 use Rattle.nets.specs.declared.Net.{Net}
 use Rattle.nets.specs.declared.sound.SoundNet.{SoundNet}

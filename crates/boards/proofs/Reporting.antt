@@ -1,11 +1,11 @@
 -- What is reported of a load. Assumes nothing.
-use Rattle.std.proofs.Common.{◌≡◌, ℕ, zero, suc, ◌*◌, ◌^◌, ◌<◌, ◌≤◌, List, [], ◌∷◌, map, length, get_or, take, drop, ℤ, pos, nat_abs, IfOk, Some, None, Ok, Err, Result, sym, refl, ap, ◌∙◌, subst, arith, length-append, length-drop}
+use Rattle.std.proofs.Common.{◌≡◌, ℕ, ◌<◌, ◌≤◌, List, map, length, get_or, take, drop, pos, nat_abs, IfOk, Some, Ok, Err, Result, sym, ap, ◌∙◌, subst, arith, length-append, length-drop}
 use lib.ListN
 use lib.ListN.{length-map}
 use Rattle.std.proofs.lemmas.List.{length-take-le, get_or-take, get_or-map}
 use Rattle.rules.specs.Net.{Net, Sound, stations}
 use Rattle.rules.specs.Ranges.{InRange}
-use Rattle.rules.specs.Steps.{Step, forward, Has, ticks}
+use Rattle.rules.specs.Steps.{forward, Has, ticks}
 use Rattle.rules.proofs.Chains.{chain_has}
 use Rattle.rules.proofs.Tested.{open_below}
 use Rattle.rules.proofs.Sizes.{steps_sized_lem}
@@ -19,7 +19,7 @@ use Rattle.texts.specs.declared.fault.TextFault.TheVariants as texts
 use Rattle.texts.specs.Faults as texts_faults
 use Rattle.texts.specs.NetText.{Right}
 use Rattle.reports.specs.declared.report.ShortBuffer.{ShortBuffer}
-use Rattle.reports.specs.Bytes.{timetable_bytes, circuit_bytes, refusal_bytes}
+use Rattle.reports.specs.Bytes.{timetable_bytes, refusal_bytes}
 use Rattle.reports.specs.Steps.{step_number, no_step}
 use Rattle.reports.specs.Reported.{Reported}
 use Rattle.boards.specs.declared.board.Board.{Board}

@@ -1,5 +1,5 @@
 -- What a load makes of a board, and what it leaves in the caller's list. Assumes nothing.
-use Rattle.std.specs.Prelude.{◌≡◌, ℕ, ◌<◌, ◌≤◌, List, length, take, drop, None, Ok, Err, Result}
+use Rattle.std.specs.Prelude.{◌≡◌, ℕ, ◌<◌, ◌≤◌, List, length, take, drop, Ok, Err, Result}
 use Rattle.rules.specs.Net.{Net}
 use Rattle.rules.specs.Rules.{Least}
 use Rattle.nets.specs.declared.CircuitStep.{CircuitStep}

@@ -1,5 +1,5 @@
 -- The net that a draft offers, and why it may have none to offer. Assumes nothing.
-use Rattle.std.specs.Prelude.{◌≡◌, ℕ, List, take, replicate, Some, None, Ok, Err, Result}
+use Rattle.std.specs.Prelude.{◌≡◌, take, replicate, Some, None, Ok, Err, Result}
 use Rattle.rules.specs.Net.{Net, Sound}
 use Rattle.rules.specs.Ranges.{InRange}
 use Rattle.rules.specs.Rates as rates

@@ -1,5 +1,5 @@
 -- What is reported of a net text. Assumes nothing.
-use Rattle.std.specs.Prelude.{◌≡◌, ℕ, ◌^◌, ◌<◌, ◌≤◌, List, take, Some, None, Err, Result, slice_index_or, unsigned_abs}
+use Rattle.std.specs.Prelude.{ℕ, ◌^◌, ◌<◌, ◌≤◌, List, take, Some, None, Err, Result, slice_index_or, unsigned_abs}
 use Rattle.rules.specs.Net.{Net, stations}
 use Rattle.rules.specs.Rules.{Least}
 use Rattle.nets.specs.declared.CircuitStep.{CircuitStep}

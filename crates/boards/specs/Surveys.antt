@@ -1,5 +1,5 @@
 -- What a survey tells of a draft. Assumes nothing.
-use Rattle.std.specs.Prelude.{◌≡◌, ℕ, take, Ok, Err, Result}
+use Rattle.std.specs.Prelude.{◌≡◌, take, Ok, Err, Result}
 use Rattle.rules.specs.Net as nets
 use Rattle.rules.specs.Net.{Net}
 use Rattle.rules.specs.Rules as rules

@@ -1,9 +1,8 @@
 -- What a load of a text makes of a board. Assumes nothing.
-use Rattle.std.specs.Prelude.{◌≡◌, ℕ, List, Ok, Err, Result}
+use Rattle.std.specs.Prelude.{ℕ, List, Ok, Err, Result}
 use Rattle.nets.specs.declared.CircuitStep.{CircuitStep}
 use Rattle.drafts.specs.declared.stage.NetSizes.{NetSizes}
 use Rattle.drafts.specs.declared.tables.Tables.{Tables}
-use Rattle.texts.specs.declared.fault.TextFault.{TextFault}
 use Rattle.texts.specs.Faults.{Worded, said}
 use Rattle.texts.specs.NetText as texts
 use Rattle.texts.specs.Outcomes.{entries_of}

@@ -1,7 +1,7 @@
 -- What a call's faults tell, as the ledger has it. Assumes nothing.
-use Rattle.std.specs.Prelude.{ℕ, Bool, cond, ◌||◌, Ok, Err, Result, nat_lt}
+use Rattle.std.specs.Prelude.{ℕ, cond, ◌||◌, Ok, Err, Result, nat_lt}
 use Rattle.rules.specs.Net.{Net}
-use Rattle.ledger.specs.Calls.{Call, Place, at, Answer, refused}
+use Rattle.ledger.specs.Calls.{Call, at, Answer, refused}
 use Rattle.ledger.specs.Checks.{Refusal, out_of_range, too_full, unbalanced, in_use, not_open, number_of, own_checks}
 use Rattle.ledger.specs.Runs.{FirstFails}
 use Rattle.checks.specs.declared.fault.CallFault.{CallFault}

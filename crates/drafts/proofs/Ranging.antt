@@ -1,21 +1,21 @@
 -- A draft none of whose entries fails makes a net that is in range. Assumes nothing.
-use Rattle.std.proofs.Common.{◌≡◌, ℕ, ◌+◌, ◌-◌, ◌<◌, ◌≤◌, Bool, true, false, cond, ◌||◌, ltb, leb, ◌⊎◌, List, map, length, get_or, take, replicate, Some, None, Option, sym, refl, ap, ◌∙◌, subst, inl, inr, arith}
+use Rattle.std.proofs.Common.{◌≡◌, ℕ, ◌+◌, ◌-◌, ◌<◌, ◌≤◌, Bool, true, false, cond, ltb, List, length, get_or, take, replicate, Some, None, Option, sym, refl, ap, ◌∙◌, subst, inl, inr, arith}
 use native.Mathlib.Nat.{sub-zero}
-use lib.ListN.{length-map, length-replicate, get_or-map}
+use lib.ListN.{length-map, get_or-map}
 use Rattle.std.proofs.lemmas.List.{length-take-le, get_or-take, get_or-replicate, get_or_past}
 use Rattle.std.proofs.lemmas.Bool.Decides.{nat_tests}
-use Rattle.std.proofs.lemmas.Bool.{cases_lt, ltb-true, ltb-false}
+use Rattle.std.proofs.lemmas.Bool.{cases_lt, ltb-true}
 use Rattle.handover.proofs.Options.{none_some, some_same}
 use Rattle.rules.specs.Net as rules
-use Rattle.rules.specs.Ranges.{CheckedLink, Checked}
+use Rattle.rules.specs.Ranges.{CheckedLink}
 use Rattle.nets.specs.declared.LinkEnds.{LinkEnds}
 use Rattle.nets.specs.declared.LinkTerms.{LinkTerms}
 use Rattle.nets.specs.declared.Link.{Link}
 use Rattle.nets.specs.declared.Net.{Net}
-use Rattle.nets.specs.Views.{of_link, of_slot, of_net, Whole, Ranged}
+use Rattle.nets.specs.Views.{of_link, of_slot, of_net, Ranged}
 use Rattle.drafts.specs.declared.stage.NetSizes.{NetSizes}
 use Rattle.drafts.specs.declared.fault.DraftFault.{DraftFault}
-use Rattle.drafts.specs.declared.fault.DraftFault.TheVariants.{Range, Capacity}
+use Rattle.drafts.specs.declared.fault.DraftFault.TheVariants.{Capacity}
 use Rattle.drafts.specs.Faults.{or_else, fault_if, range_fault, station_fault}
 use Rattle.drafts.specs.Entries.{sizes_fault, duration_fault, ends_fault, terms_fault, capacity_fault, below_stock, room_fault}
 use Rattle.drafts.specs.Checks.{durations_fault, all_ends_fault, all_terms_fault, rooms_fault, entry_slot, entry_link, no_ends, no_terms}

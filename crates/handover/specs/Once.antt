@@ -1,5 +1,5 @@
 -- Lists in which no number stands twice. Assumes nothing.
-use Rattle.std.specs.Prelude.{◌≡◌, ℕ, List, [], ◌∷◌, ◌≢◌}
+use Rattle.std.specs.Prelude.{ℕ, List, [], ◌∷◌, ◌≢◌}
 
 -- x is none of the elements.
 abbrev pub Absent : ℕ → List ℕ → Type 0

@@ -3,7 +3,7 @@ use Rattle.std.proofs.Common.{◌≡◌, ℕ, zero, suc, ◌<◌, List, get_or, 
 use Rattle.std.proofs.lemmas.Bool.{cases_lt, cases_eq}
 use Rattle.std.proofs.lemmas.List.{ext_get_or}
 use Rattle.handover.proofs.Options.{some_same}
-use Rattle.rules.specs.Net.{Link, Net, Open, stations}
+use Rattle.rules.specs.Net.{Net, stations}
 use Rattle.rules.specs.Ranges.{Checked}
 use Rattle.rules.specs.Rates.{Leads, CutOff, Rated, with_rates}
 use Rattle.rates.proofs.Unique.{rates_one_lem}

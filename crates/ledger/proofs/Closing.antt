@@ -1,12 +1,12 @@
 -- A close is never refused for want of a timetable, and keeps every timetable. Assumes nothing.
-use Rattle.std.proofs.Common.{◌≡◌, ℕ, ◌⊎◌, List, [], ◌∷◌, length, get_or, set, Some, None, Option, sym, refl, ap, ◌∙◌, subst, inl, inr, arith}
+use Rattle.std.proofs.Common.{◌≡◌, ℕ, List, [], ◌∷◌, length, get_or, set, None, Option, sym, ap, ◌∙◌, subst, inl, inr, arith}
 use Rattle.std.proofs.lemmas.Bool.{cases_lt}
 use Rattle.std.proofs.lemmas.List.{get_or-set_same, get_or-set_other, get_or_past, length-set}
-use Rattle.rules.specs.Net.{Link, Net, Timetable, Fits}
+use Rattle.rules.specs.Net.{Link, Net, Fits}
 use Rattle.rules.specs.Rules.{Keeps}
-use Rattle.ledger.specs.Calls.{close, Place, Answer, refused, done}
+use Rattle.ledger.specs.Calls.{close, Place, Answer, refused}
 use Rattle.ledger.specs.Checks.{Refusal, out_of_range, not_open, number_of}
-use Rattle.ledger.specs.Runs.{Answered, FirstFails}
+use Rattle.ledger.specs.Runs.{FirstFails}
 use Rattle.ledger.specs.Facts.{CloseKeeps}
 use Rattle.ledger.proofs.Basics.{not_done}
 use Rattle.ledger.proofs.Links.{still_fits, still_keeps}

@@ -1,5 +1,5 @@
 -- Whether a call is refused for want of a timetable. Assumes nothing.
-use Rattle.std.proofs.Common.{◌≡◌, ℕ, ◌<◌, ◌≤◌, ◌⊎◌, ◌↔◌, List, [], ◌∷◌, ◌++◌, map, length, sym, refl, ap, ◌∙◌, subst, inl, inr, le_trans, arith, lit<}
+use Rattle.std.proofs.Common.{◌≡◌, ℕ, ◌<◌, ◌≤◌, ◌⊎◌, List, [], ◌∷◌, ◌++◌, map, length, sym, refl, ap, ◌∙◌, subst, inl, inr, le_trans, arith, lit<}
 use lib.ListN.{length-map}
 use Rattle.handover.proofs.Once.{once_few}
 use Rattle.rules.specs.Net.{Net, Sound, stations}
@@ -10,11 +10,11 @@ use Rattle.rules.proofs.Existence.{least_or_circuit_lem, chain_inside}
 use Rattle.nets.specs.declared.CircuitStep.{CircuitStep}
 use Rattle.nets.specs.Views.{step_of}
 use Rattle.timing.specs.Timing as timing
-use Rattle.ledger.specs.Calls.{entries, text, Question, start_of, period_of, stock_at, taken_at, link_at, duration_of, rate_of, pace_held, pace_fastest, timetable_shown, Call, load, open_link, put, close, ask, Place, Answer, refused, done, value}
-use Rattle.ledger.specs.States.{After, new_board}
+use Rattle.ledger.specs.Calls.{entries, text, Question, start_of, period_of, stock_at, taken_at, link_at, duration_of, rate_of, pace_held, pace_fastest, timetable_shown, Call, load, open_link, put, close, ask, Place, Answer, refused, value}
+use Rattle.ledger.specs.States.{new_board}
 use Rattle.ledger.specs.Checks.{Refusal, unformed, out_in_text, full_in_text, out_of_range, too_full, short_list, cut_off, no_rates, unbalanced, in_use, not_open, no_timetable, number_of, own_checks, order, Fails}
 use Rattle.ledger.specs.Runs.{Tells, Value, Passes, AllPass, FirstFails, Refused, Answered, Ran, none, more}
-use Rattle.ledger.specs.Facts.{Among, Earlier, Offered, TimetablesDecide, LeastThere, RunsJoin, Halfway, RunsDecide}
+use Rattle.ledger.specs.Facts.{Among, Earlier, Offered, TimetablesDecide, LeastThere, RunsJoin, RunsDecide}
 use Rattle.ledger.proofs.Basics.{not_done}
 use Rattle.ledger.proofs.Afters.{after_one}
 use Rattle.ledger.proofs.Passing.{own_pass}

@@ -1,17 +1,16 @@
 -- Every run from the new board leads to a state within the ranges, with balanced links and a timetable. Assumes nothing.
-use Rattle.std.proofs.Common.{◌≡◌, ℕ, ◌*◌, ◌<◌, ◌≤◌, ◌⊎◌, List, [], ◌∷◌, length, get_or, set, Some, None, Option, sym, refl, ap, ◌∙◌, subst, inl, inr, arith, lit≤, length-set}
+use Rattle.std.proofs.Common.{◌≡◌, ℕ, ◌*◌, ◌<◌, ◌≤◌, List, [], ◌∷◌, length, get_or, set, Some, None, Option, sym, refl, ◌∙◌, subst, inl, inr, arith, lit≤, length-set}
 use Rattle.std.proofs.lemmas.Bool.{cases_lt, cases_eq}
 use Rattle.std.proofs.lemmas.List.{get_or-set_same, get_or-set_other}
 use Rattle.handover.proofs.Options.{none_some, some_same}
 use Rattle.rules.specs.Net.{Link, Net, Open, Sound, SoundLink, Fits, rate, whole, at_pace_lem}
-use Rattle.rules.specs.Rules.{HasTimetable}
 use Rattle.rules.specs.Rates.{Rated}
 use Rattle.rules.specs.Ranges.{InRange, LinkInRange}
 use Rattle.rules.proofs.Paces.{sound_at}
 use Rattle.rules.proofs.Soundness.{rates_sound_lem}
 use Rattle.rules.proofs.Tested.{sound_tested, keeps_tested, range_tested}
 use Rattle.texts.specs.NetText.{Entries}
-use Rattle.ledger.specs.Calls.{Source, duration_to, stock_to, capacity_to, pace_to, Call, load, open_link, put, close, ask, Place, at, Answer}
+use Rattle.ledger.specs.Calls.{Source, duration_to, stock_to, capacity_to, pace_to, Call, load, open_link, put, close, ask, at, Answer}
 use Rattle.ledger.specs.States.{new_board, with_duration, with_link, with_stock, with_capacity, net_of, Gives, After}
 use Rattle.ledger.specs.Checks.{out_of_range, too_full, unbalanced, own_checks, order, list_of}
 use Rattle.ledger.specs.Runs.{Answered, AllPass, Passes, Ran, none, more}

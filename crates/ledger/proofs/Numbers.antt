@@ -1,5 +1,5 @@
 -- What it says that all numbers of a call are in range. Assumes nothing.
-use Rattle.std.proofs.Common.{◌≡◌, ℕ, zero, suc, ◌+◌, ◌-◌, ◌<◌, ◌≤◌, cond, ltb, ◌⊎◌, List, [], ◌∷◌, ◌++◌, map, length, get_or, Some, None, Option, sym, refl, ap, ◌∙◌, subst, inl, inr, arith}
+use Rattle.std.proofs.Common.{◌≡◌, ℕ, zero, suc, ◌+◌, ◌<◌, ◌≤◌, cond, ltb, ◌⊎◌, List, [], ◌∷◌, ◌++◌, map, length, Some, None, Option, sym, refl, ap, ◌∙◌, subst, inl, inr, arith}
 use Rattle.std.specs.List.{range_with_len, flat_map}
 use Rattle.std.proofs.lemmas.Bool.{cases_lt, lt-ltb, le-ltb}
 use Rattle.std.proofs.lemmas.List.{get_or_past}
@@ -8,7 +8,7 @@ use Rattle.handover.proofs.Options.{none_some, some_same}
 use Rattle.rules.specs.Net.{Link, Net, Open, duration}
 use Rattle.rules.specs.Ranges.{Checked}
 use Rattle.texts.specs.NetText.{Entries}
-use Rattle.ledger.specs.Calls.{Source, Call, load, open_link, put, close, ask, Place, at}
+use Rattle.ledger.specs.Calls.{Source, Call, load, open_link, put, close, ask, at}
 use Rattle.ledger.specs.States.{entry_duration, entry_link, net_of, first, below, Gives}
 use Rattle.ledger.specs.Checks.{Lowest, out_of_range, too_full, MakesFull}
 use Rattle.ledger.specs.Ranges.{Number, Out, FirstOut, Numbers, sizes_numbers, ends_numbers, terms_numbers, draft_numbers, a_duration, a_capacity}

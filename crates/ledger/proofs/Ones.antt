@@ -1,5 +1,5 @@
 -- A call has one answer and leads to one state. Assumes nothing.
-use Rattle.std.proofs.Common.{◌≡◌, ℕ, ◌⊎◌, List, [], ◌∷◌, get_or, ℤ, pos, Some, None, Option, sym, refl, ap, ◌∙◌, subst, inl, inr}
+use Rattle.std.proofs.Common.{◌≡◌, ℕ, ◌⊎◌, List, [], ◌∷◌, get_or, ℤ, pos, Some, None, sym, refl, ap, ◌∙◌, subst, inl, inr}
 use Rattle.std.proofs.lemmas.Bool.{cases_order}
 use Rattle.handover.proofs.Options.{some_same}
 use Rattle.rules.specs.Net.{Link, Net, whole}
@@ -10,8 +10,8 @@ use Rattle.rules.proofs.Fastest.{fastest_one_lem}
 use Rattle.nets.specs.declared.CircuitStep.{CircuitStep}
 use Rattle.drafts.specs.declared.fault.DraftFault.TheVariants.{Range, Capacity}
 use Rattle.texts.specs.NetText as texts
-use Rattle.ledger.specs.Calls.{Question, start_of, period_of, stock_at, taken_at, link_at, duration_of, rate_of, pace_held, pace_fastest, timetable_shown, Call, load, open_link, close, put, ask, Place, nowhere, at, in_text, around, Answer, refused, value, fraction, ends_and_terms, timetable}
-use Rattle.ledger.specs.States.{unrated, After}
+use Rattle.ledger.specs.Calls.{Question, start_of, period_of, stock_at, taken_at, link_at, duration_of, rate_of, pace_held, pace_fastest, timetable_shown, Call, load, open_link, close, put, ask, Place, at, in_text, around, Answer, refused, value, fraction, ends_and_terms, timetable}
+use Rattle.ledger.specs.States.{unrated}
 use Rattle.ledger.specs.Checks.{Refusal, unformed, out_in_text, full_in_text, out_of_range, too_full, short_list, cut_off, no_rates, unbalanced, in_use, not_open, no_timetable, number_of, order, Lowest, MakesFull, Fails}
 use Rattle.ledger.specs.Ranges.{Number, FirstOut}
 use Rattle.ledger.specs.Runs.{Tells, Value, AllPass, FirstFails, Answered, Ran, none, more, periods_of}

@@ -1,5 +1,5 @@
 -- How a call comes to its answer: for whoever holds a board against the ledger. Assumes nothing.
-use Rattle.std.proofs.Common.{◌≡◌, ℕ, ◌<◌, ◌≤◌, ◌⊎◌, List, [], ◌∷◌, ◌++◌, get_or, Some, None, Option, sym, refl, subst, inl, inr, arith}
+use Rattle.std.proofs.Common.{◌≡◌, ℕ, ◌<◌, ◌≤◌, List, [], ◌∷◌, ◌++◌, get_or, Some, None, sym, refl, subst, inl, inr, arith}
 use Rattle.rules.specs.Net.{Link, Net, Open}
 use Rattle.rules.specs.Rules.{HasTimetable}
 use Rattle.nets.specs.declared.CircuitStep.{CircuitStep}
@@ -9,7 +9,7 @@ use Rattle.texts.specs.NetText as texts
 use Rattle.texts.specs.NetText.{Entries, Text, Broken}
 use Rattle.ledger.specs.Calls.{Question, Call, text, load, close, ask, Place, at, in_text, around, Answer, refused, done}
 use Rattle.ledger.specs.States.{with_link, After}
-use Rattle.ledger.specs.Ranges.{Number, FirstOut, question_numbers}
+use Rattle.ledger.specs.Ranges.{FirstOut, question_numbers}
 use Rattle.ledger.specs.Checks.{Refusal, unformed, out_in_text, full_in_text, out_of_range, short_list, not_open, no_timetable, number_of, own_checks, with_list, order, list_of, link_of}
 use Rattle.ledger.specs.Runs.{Tells, Value, Passes, AllPass, FirstFails, Answered, Ran, none, more}
 use Rattle.ledger.proofs.Reading.{form_pass, numbers_pass, text_pass, fault_whole, fault_one, range_capacity}

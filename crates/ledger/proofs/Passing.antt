@@ -1,11 +1,11 @@
 -- What it takes to pass a check. Assumes nothing.
-use Rattle.std.proofs.Common.{◌≡◌, ℕ, ◌*◌, ◌<◌, ◌≤◌, List, get_or, Some, None, Option, sym, refl, ap, ◌∙◌, subst, arith}
+use Rattle.std.proofs.Common.{◌≡◌, ℕ, ◌*◌, ◌<◌, ◌≤◌, List, get_or, Some, None, Option, sym, ap, ◌∙◌, subst, arith}
 use Rattle.handover.proofs.Options.{none_some, some_same}
 use Rattle.rules.specs.Net.{Link, Net, Open, rate}
 use Rattle.rules.specs.Rules.{HasTimetable}
 use Rattle.rules.specs.Rates.{Joined, Rated}
 use Rattle.texts.specs.NetText.{Entries}
-use Rattle.ledger.specs.Calls.{Source, entries, text, duration_to, stock_to, capacity_to, pace_to, Call, load, open_link, put, close, ask, Place}
+use Rattle.ledger.specs.Calls.{Source, entries, text, duration_to, stock_to, capacity_to, pace_to, Call, load, open_link, put, close, ask}
 use Rattle.ledger.specs.States.{net_of, unrated, entry_link, Gives, with_stock, with_capacity, After}
 use Rattle.ledger.specs.Checks.{short_list, too_full, cut_off, no_rates, unbalanced, in_use, not_open, no_timetable, own_checks, order, list_of, Loads, opening, link_of, MakesFull}
 use Rattle.ledger.specs.Runs.{Passes, AllPass}

@@ -1,6 +1,6 @@
 -- A text gives at most one list of entries, and then has none of its faults. Assumes nothing.
-use Rattle.std.proofs.Common.{◌≡◌, ℕ, List, [], ◌∷◌, Some, None, sym, refl, ◌∙◌, subst, arith}
-use Rattle.handover.proofs.Options.{none_some, some_same}
+use Rattle.std.proofs.Common.{◌≡◌, ℕ, List, [], ◌∷◌, sym, refl, ◌∙◌, subst, arith}
+use Rattle.handover.proofs.Options.{some_same}
 use Rattle.rules.specs.Net.{Net}
 use Rattle.drafts.specs.declared.fault.DraftFault.{DraftFault}
 use Rattle.drafts.specs.declared.fault.DraftFault.TheVariants.{Range, Capacity}
@@ -9,9 +9,9 @@ use Rattle.forms.proofs.Exact.{reads_as, refuses_at, breaks_at}
 use Rattle.texts.specs.NetText.{Entries, Whole, pieces, Text, Refused, Broken}
 use Rattle.texts.specs.NetForm.{net_form}
 use Rattle.texts.proofs.NetTexts.{net_describes}
-use Rattle.ledger.specs.Calls.{Source, entries, text, Call, load, open_link, put, close, ask, Place}
+use Rattle.ledger.specs.Calls.{Source, entries, text, Call, load, open_link, put, close, ask}
 use Rattle.ledger.specs.States.{Gives}
-use Rattle.ledger.specs.Checks.{unformed, out_in_text, full_in_text, Loads, text_of}
+use Rattle.ledger.specs.Checks.{unformed, out_in_text, full_in_text, Loads}
 use Rattle.ledger.specs.Runs.{Passes, AllPass}
 
 -- an outcome is of one kind

@@ -1,5 +1,5 @@
 -- A circuit above zero can be told, from its lowest station; so what passes the check for a timetable has one. Assumes nothing.
-use Rattle.std.proofs.Common.{◌≡◌, ℕ, zero, suc, ◌<◌, ◌≤◌, List, [], ◌∷◌, ◌++◌, map, length, pos, ◌<ℤ◌, sym, refl, ap, ◌∙◌, subst, inl, inr, le_trans, arith}
+use Rattle.std.proofs.Common.{◌≡◌, ℕ, zero, suc, ◌≤◌, List, [], ◌∷◌, ◌++◌, map, pos, ◌<ℤ◌, sym, refl, ap, ◌∙◌, subst, inl, inr, le_trans, arith}
 use borrow.Author.Differences.{lt_out}
 use Rattle.std.proofs.lemmas.Bool.{cases_lt}
 use Rattle.rules.specs.Net.{Net, Sound, whole}

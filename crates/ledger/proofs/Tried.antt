@@ -1,8 +1,8 @@
 -- The worked examples. Assumes nothing.
-use Rattle.std.proofs.Common.{◌≡◌, ℕ, zero, suc, ◌<◌, ◌≤◌, ◌⊎◌, List, [], ◌∷◌, map, get_or, ℤ, pos, neg_ℤ, Some, None, codes, Option, sym, refl, ap, ◌∙◌, subst, inl, inr, arith, lit<, lit≤}
+use Rattle.std.proofs.Common.{◌≡◌, ℕ, zero, suc, ◌<◌, ◌≤◌, List, [], ◌∷◌, get_or, pos, neg_ℤ, Some, None, codes, Option, refl, inl, inr, arith, lit<, lit≤}
 use lib.Signed.{lt_z_yes}
 use Rattle.handover.proofs.Gcd.{coprime}
-use Rattle.rules.specs.Net.{Link, Net, Sound, Fits, Open, whole, at_pace_lem}
+use Rattle.rules.specs.Net.{Link, Net, Sound, Fits, whole, at_pace_lem}
 use Rattle.rules.specs.Rules.{Least, HasTimetable}
 use Rattle.rules.specs.Rates.{Leads, stay, on, Joined, CutOff, NoRates, Rated}
 use Rattle.rules.specs.Paces.{Fastest}
@@ -19,15 +19,15 @@ use Rattle.timing.specs.Timing as timing
 use Rattle.texts.specs.NetText.{Entries, Whole, pieces, Right, Text, Refused, Broken}
 use Rattle.texts.specs.NetForm.{net_form}
 use Rattle.texts.proofs.NetTexts.{net_describes}
-use Rattle.ledger.specs.Calls.{Source, entries, text, duration_to, capacity_to, pace_to, Question, start_of, period_of, stock_at, taken_at, link_at, rate_of, pace_fastest, timetable_shown, Call, load, open_link, put, close, ask, nowhere, at, in_text, around, Answer, refused, done, value, fraction, ends_and_terms, timetable}
-use Rattle.ledger.specs.States.{new_board, net_of, unrated, with_link, entry_link, Gives}
+use Rattle.ledger.specs.Calls.{Source, entries, text, duration_to, capacity_to, pace_to, Question, start_of, period_of, stock_at, taken_at, link_at, rate_of, pace_fastest, timetable_shown, Call, load, open_link, put, close, ask, nowhere, at, around, Answer, refused, done, value, fraction, ends_and_terms, timetable}
+use Rattle.ledger.specs.States.{new_board, unrated, with_link, entry_link, Gives}
 use Rattle.ledger.specs.Checks.{out_of_range, too_full, cut_off, no_rates, unbalanced, in_use, own_checks, link_of, Fails}
 use Rattle.ledger.specs.Ranges.{Number, Numbers, draft_numbers, question_numbers}
 use Rattle.ledger.specs.Runs.{Passes, AllPass, Answered, Tells, none, more}
 use Rattle.ledger.specs.Examples.{a_link, two_draft, two, two_text, apart_draft, unrated_draft, full_draft, turned_draft, there_and_back, Refusals, Told, Made, Worked}
 use Rattle.ledger.proofs.Numbers.{ranges_pass, entry_open}
 use Rattle.ledger.proofs.Computed.{out_at, out_found, in_tested}
-use Rattle.ledger.proofs.Passing.{Roomy, full_pass, load_roomy, open_roomy, capacity_roomy, pace_roomy, open_pass, none_pass, free_pass, joined_pass, rated_pass}
+use Rattle.ledger.proofs.Passing.{Roomy, load_roomy, open_roomy, capacity_roomy, pace_roomy, open_pass, none_pass, free_pass, joined_pass, rated_pass}
 use Rattle.ledger.proofs.Outcomes.{short, unfit, untimed, settled, settled_text, misread_form, misread_number, close_none, close_done, ask_none, ask_told}
 
 -- The two stations

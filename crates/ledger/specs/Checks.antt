@@ -7,7 +7,7 @@ use Rattle.drafts.specs.declared.fault.DraftFault.TheVariants.{Range, Capacity}
 use Rattle.texts.specs.NetText as texts
 use Rattle.texts.specs.NetText.{Entries}
 use Rattle.timing.specs.Timing.{Told}
-use Rattle.ledger.specs.Calls.{Source, entries, text, duration_to, stock_to, capacity_to, pace_to, start_of, period_of, stock_at, taken_at, link_at, duration_of, rate_of, pace_held, pace_fastest, timetable_shown, Call, load, open_link, put, close, ask, Place, nowhere, at, in_text, around}
+use Rattle.ledger.specs.Calls.{entries, text, duration_to, stock_to, capacity_to, pace_to, start_of, period_of, stock_at, taken_at, link_at, duration_of, rate_of, pace_held, pace_fastest, timetable_shown, Call, load, open_link, put, close, ask, Place, nowhere, at, in_text, around}
 use Rattle.ledger.specs.States.{with_stock, with_capacity, entry_link, unrated, Gives, After}
 use Rattle.ledger.specs.Ranges.{Number, FirstOut, Numbers}
 

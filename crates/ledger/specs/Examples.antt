@@ -7,7 +7,7 @@ use Rattle.nets.specs.declared.LinkEnds.{LinkEnds}
 use Rattle.nets.specs.declared.LinkTerms.{LinkTerms}
 use Rattle.nets.specs.declared.Step.TheVariants.{Forward, Back}
 use Rattle.texts.specs.NetText.{Entries}
-use Rattle.ledger.specs.Calls.{entries, text, duration_to, capacity_to, pace_to, start_of, period_of, stock_at, taken_at, link_at, rate_of, pace_fastest, timetable_shown, Call, load, open_link, close, put, ask, nowhere, at, in_text, around, Answer, refused, done, value, fraction, ends_and_terms, timetable}
+use Rattle.ledger.specs.Calls.{entries, text, duration_to, capacity_to, pace_to, start_of, period_of, stock_at, taken_at, link_at, rate_of, pace_fastest, timetable_shown, load, open_link, close, put, ask, nowhere, at, in_text, around, refused, done, value, fraction, ends_and_terms, timetable}
 use Rattle.ledger.specs.States.{new_board, net_of, with_link, unrated}
 use Rattle.ledger.specs.Checks.{number_of, order}
 use Rattle.ledger.specs.Runs.{Answered, Ran}

@@ -1,6 +1,6 @@
 -- What holds of the ledger. Assumes nothing.
-use Rattle.std.specs.Prelude.{◌≡◌, ℕ, ◌≤◌, ◌⊎◌, ◌↔◌, List, [], ◌∷◌, ◌++◌, length, Some, None, Option, ◌≢◌, slice_index_or}
-use Rattle.rules.specs.Net.{Link, Net, Timetable, Open, Sound, Fits}
+use Rattle.std.specs.Prelude.{◌≡◌, ℕ, ◌≤◌, ◌⊎◌, ◌↔◌, List, [], ◌∷◌, ◌++◌, length, None, ◌≢◌, slice_index_or}
+use Rattle.rules.specs.Net.{Net, Timetable, Sound, Fits}
 use Rattle.rules.specs.Rules.{Keeps, HasTimetable, NoTimetable, Least}
 use Rattle.rules.specs.Ranges.{InRange}
 use Rattle.nets.specs.declared.CircuitStep.{CircuitStep}

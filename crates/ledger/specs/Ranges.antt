@@ -1,7 +1,7 @@
 -- The ranges of numbers, and the numbers of each call in their order. Assumes nothing.
-use Rattle.std.specs.Prelude.{◌≡◌, ℕ, ◌-◌, ◌<◌, ◌⊎◌, List, [], ◌∷◌, ◌++◌, get_or, Some, None, Option}
+use Rattle.std.specs.Prelude.{◌≡◌, ℕ, ◌-◌, ◌<◌, ◌⊎◌, List, [], ◌∷◌, ◌++◌, Some, None, Option}
 use Rattle.std.specs.List.{flat_map}
-use Rattle.rules.specs.Net.{Link, Net, stations}
+use Rattle.rules.specs.Net.{Net, stations}
 use Rattle.texts.specs.NetText.{Entries}
 use Rattle.ledger.specs.Calls.{Setting, duration_to, stock_to, capacity_to, pace_to, Question, start_of, period_of, stock_at, taken_at, link_at, duration_of, rate_of, pace_held, pace_fastest, timetable_shown, Call, load, open_link, close, put, ask}
 use Rattle.ledger.specs.States.{below, first, entry_duration, entry_link, Gives}

@@ -1,5 +1,5 @@
 -- The programs' net, link and step, as the rules have them. Assumes nothing.
-use Rattle.std.specs.Prelude.{◌≡◌, ℕ, ◌≤◌, List, map, length, take, Some, None, Option}
+use Rattle.std.specs.Prelude.{◌≡◌, ◌≤◌, map, length, take, Some, None, Option}
 use Rattle.rules.specs.Net as rules
 use Rattle.rules.specs.Ranges.{InRange, Checked}
 use Rattle.rules.specs.Steps as steps

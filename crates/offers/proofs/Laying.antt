@@ -1,5 +1,5 @@
 -- What a draft offers, as the ledger has it of a load. Assumes nothing.
-use Rattle.std.proofs.Common.{◌≡◌, ℕ, ◌+◌, ◌<◌, ◌≤◌, Bool, cond, ltb, List, [], ◌∷◌, map, length, get_or, take, replicate, Some, None, Err, Option, sym, refl, ap, ◌∙◌, subst, inl, inr, arith}
+use Rattle.std.proofs.Common.{◌≡◌, ℕ, ◌<◌, ◌≤◌, Bool, cond, ltb, List, [], map, get_or, take, Some, None, Option, sym, refl, ap, ◌∙◌, subst, inl, inr, arith}
 use Rattle.std.specs.List.{range_with_len}
 use Rattle.std.proofs.lemmas.List.FromFn.{fill_by_all}
 use Rattle.std.proofs.lemmas.List.{length-take-le, get_or-take}
@@ -20,13 +20,12 @@ use Rattle.texts.specs.NetText.{Entries}
 use Rattle.texts.specs.Outcomes.{entries_of}
 use Rattle.ledger.specs.Calls.{Source, Call, load, at, nowhere}
 use Rattle.ledger.specs.States.{entry_link, net_of, unrated, Gives, After}
-use Rattle.ledger.specs.Ranges.{Number, FirstOut, draft_numbers, sizes_numbers}
-use Rattle.ledger.specs.Checks.{Refusal, out_of_range, too_full, cut_off, no_rates, number_of, own_checks, MakesFull, Lowest}
+use Rattle.ledger.specs.Ranges.{Number, draft_numbers, sizes_numbers}
+use Rattle.ledger.specs.Checks.{Refusal, out_of_range, too_full, cut_off, no_rates, number_of, own_checks, MakesFull}
 use Rattle.ledger.specs.Runs.{Passes, AllPass, FirstFails}
 use Rattle.ledger.proofs.Numbers.{AllIn, ranges_pass, both_in}
 use Rattle.ledger.proofs.Passing.{load_roomy, joined_pass, rated_pass}
 use Rattle.ledger.proofs.Reading.{gives_one}
-use Rattle.offers.specs.declared.refusal.Refusal.TheVariants.{Draft, CutOff, NoRates}
 use Rattle.offers.specs.Offers as offers
 use Rattle.offers.specs.Offers.{Offer, Offers}
 use Rattle.offers.proofs.Judging.{Tells, Full, Rooms, numbers_fault, full_fault, numbers_told, rooms_told, parts, terms_many}

@@ -6,7 +6,7 @@ use Rattle.handover.specs.Gcd.{gcd}
 use Rattle.rules.specs.Net.{Net, stations}
 use Rattle.rules.specs.Ranges.{Checked}
 use Rattle.rates.specs.declared.Lead.{Lead}
-use Rattle.rates.specs.Reaching.{number, Terms, missing, parts, end, Onward, Lowest, CutOffOr, Scaled, Reached, Led}
+use Rattle.rates.specs.Reaching.{number, Terms, missing, parts, Onward, Lowest, CutOffOr, Scaled, Reached, Led}
 use Rattle.rates.proofs.Counting.{one_fewer}
 use Rattle.rates.proofs.Links.{ends_of, terms_of, led_reached, led_more}
 use Rattle.rates.proofs.Parts.{factor_pos, end_pos, risen}

@@ -1,5 +1,5 @@
 -- Bytes written one part after the other. Assumes nothing.
-use Rattle.std.proofs.Common.{◌≡◌, ℕ, zero, suc, ◌+◌, ◌<◌, ◌≤◌, List, [], ◌∷◌, ◌++◌, length, get_or, take, drop, set, sym, refl, ap, ◌∙◌, zero-le, le_refl, add-zero, arith, length-append}
+use Rattle.std.proofs.Common.{◌≡◌, ℕ, zero, suc, ◌+◌, ◌<◌, ◌≤◌, List, [], ◌∷◌, ◌++◌, length, get_or, take, drop, set, sym, ap, ◌∙◌, zero-le, le_refl, add-zero, arith, length-append}
 use Rattle.std.specs.List.{flat_map}
 use Rattle.std.proofs.lemmas.List.{append_assoc, take_at, take_all, drop_at, drop-drop, length-take-le, take_more, flat_map_more, drop-set-lt, take_more_set, take-append-drop}
 use Rattle.reports.specs.Pasted.{pasted, Wrote}

@@ -1,15 +1,13 @@
 -- A timetable keeps the rules exactly when it keeps every step. Assumes nothing.
-use Rattle.std.proofs.Common.{◌≡◌, ℕ, ◌+◌, ◌-◌, ◌*◌, ◌/◌, ◌<◌, ◌≤◌, ◌↔◌, get_or, ℤ, pos, ◌+ℤ◌, ◌-ℤ◌, ◌*ℤ◌, neg_ℤ, ◌≤ℤ◌, Some, None, Option, sym, refl, ap, subst, mul-le-mul_left, arith}
-use native.Mathlib.Nat.{le_of_mul-le-mul_left}
-use Rattle.handover.specs.Supply.{count, Covered}
-use Rattle.handover.specs.Gcd.{gcd, IsGcd}
+use Rattle.std.proofs.Common.{◌≡◌, ℕ, ◌+◌, ◌-◌, ◌*◌, ◌/◌, ◌≤◌, ◌↔◌, pos, ◌+ℤ◌, ◌-ℤ◌, ◌*ℤ◌, neg_ℤ, ◌≤ℤ◌, Some, sym, refl, ap, subst, arith}
+use Rattle.handover.specs.Gcd.{gcd}
 use Rattle.handover.proofs.Gcd.{gcd_is, gcd_unique}
 use Rattle.handover.proofs.Timetable.{timetable}
-use Rattle.rules.specs.Net.{Link, Net, Timetable, stations, duration, rate, start, Open, SoundLink, Sound, Fits}
-use Rattle.rules.specs.Rules.{Keeps, Stocked, Spaced, Apart, period, lasts, begins, ends, begun, ended}
+use Rattle.rules.specs.Net.{Link, Net, Timetable, duration, rate, start, Open, SoundLink, Sound, Fits}
+use Rattle.rules.specs.Rules.{Keeps, period, lasts, begins, ends, begun, ended}
 use Rattle.rules.specs.Steps.{Step, forward, back, own, Has, Kept, or_else, no_link, link, worth, grain}
 use Rattle.rules.specs.Theorems.{StepsDecide}
-use Rattle.rules.proofs.Differences.{Is, is_pos, is_neg, is_sum, is_less, is_times, is_le}
+use Rattle.rules.proofs.Differences.{is_pos, is_neg, is_sum, is_less, is_times, is_le}
 
 gcd_comm : (a b : ℕ) → gcd a b ≡ gcd b a
 gcd_comm a b =

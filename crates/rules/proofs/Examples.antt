@@ -1,10 +1,10 @@
 -- The worked examples. Assumes nothing.
-use Rattle.std.proofs.Common.{◌≡◌, ℕ, zero, suc, ◌<◌, ◌≤◌, List, [], ◌∷◌, get_or, pos, neg_ℤ, Some, None, Option, refl, inl, inr, arith, lit≤}
+use Rattle.std.proofs.Common.{◌≡◌, ℕ, zero, suc, ◌<◌, List, [], ◌∷◌, get_or, pos, neg_ℤ, refl, inr, arith, lit≤}
 use lib.Signed.{lt_z_yes}
-use Rattle.rules.specs.Net.{Net, Sound, Fits, whole}
+use Rattle.rules.specs.Net.{Fits, whole}
 use Rattle.rules.specs.Steps.{Step, forward, back, own, Chain, Circuit, ticks_of}
 use Rattle.rules.specs.Rules.{Least, NoPace}
-use Rattle.rules.specs.Paces.{Fastest, Names}
+use Rattle.rules.specs.Paces.{Fastest}
 use Rattle.handover.proofs.Gcd.{coprime}
 use Rattle.rules.proofs.Paces.{pair_forbids_lem}
 use Rattle.rules.proofs.Fastest.{fastest_when_lem}

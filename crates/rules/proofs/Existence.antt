@@ -1,13 +1,12 @@
 -- Least starts or a circuit above zero. Assumes nothing.
-use Rattle.std.proofs.Common.{◌≡◌, ℕ, zero, suc, ◌+◌, ◌*◌, ◌<◌, ◌≤◌, ◌⊎◌, List, [], ◌∷◌, map, length, get_or, ℤ, pos, negsuc, ◌+ℤ◌, ◌*ℤ◌, ◌≤ℤ◌, ◌<ℤ◌, sym, refl, ap, ◌∙◌, subst, inl, inr, zero-le, mul-le-mul_left, arith}
-use lib.IntN.{+ℤ_assoc, +ℤ_comm, +ℤ_idr}
-use borrow.Author.Differences.{up, down, le_out, lt_out, same_in, below_in}
+use Rattle.std.proofs.Common.{◌≡◌, ℕ, zero, suc, ◌+◌, ◌*◌, ◌<◌, ◌≤◌, ◌⊎◌, List, [], ◌∷◌, map, length, get_or, ℤ, pos, negsuc, ◌+ℤ◌, ◌≤ℤ◌, ◌<ℤ◌, sym, refl, ap, ◌∙◌, subst, inl, inr, zero-le, mul-le-mul_left, arith}
+use lib.IntN.{+ℤ_idr}
+use borrow.Author.Differences.{up, down, lt_out, same_in, below_in}
 use Rattle.std.proofs.lemmas.Int.{ints}
-use Rattle.std.proofs.lemmas.Bool.{cases_lt, cases_order}
-use Rattle.rules.specs.Net.{Link, Net, Timetable, stations, duration, start, Open, SoundLink, Sound, Fits, whole, at_pace_lem}
-use Rattle.rules.specs.Rules.{Keeps, Least, HasTimetable, NoTimetable, SomePace}
+use Rattle.std.proofs.lemmas.Bool.{cases_order}
+use Rattle.rules.specs.Net.{Link, Net, stations, duration, Open, Sound, whole, at_pace_lem}
+use Rattle.rules.specs.Rules.{Least, SomePace}
 use Rattle.rules.specs.Steps.{Step, forward, back, own, Has, Kept, Chain, Circuit, CircuitAbove, PairCircuit, PairAbove, PairAtMost, or_else, no_link, link, leads_from, leads_to, ticks, shares, time, ticks_of, time_of, shares_of}
-use Rattle.handover.specs.Once.{Once}
 use Rattle.rules.specs.Theorems.{LeastOrCircuit, CircuitsDecide, PairsDecide, PairStartsAllow}
 use Rattle.rules.proofs.Differences.{Is}
 use Rattle.rules.proofs.Chains.{bound_in, circuit_forbids_lem, least_when_reached_lem}

@@ -1,19 +1,18 @@
 -- The fastest pace. Assumes nothing.
-use Rattle.std.proofs.Common.{◌≡◌, ℕ, zero, suc, ◌+◌, ◌-◌, ◌*◌, ◌/◌, ◌<◌, ◌≤◌, ◌⊎◌, List, [], ◌∷◌, map, ℤ, pos, neg_ℤ, ◌≤ℤ◌, ◌<ℤ◌, refl, ap, subst₂, inl, inr, add-zero, mul-le-mul_right, mul-le-mul_left, mul-pos, le-div_iff_mul-le, div-le_self, arith}
-use native.Mathlib.Nat.{le_of_mul-le-mul_left, lt_of_mul-lt-mul_left, mul-div-le, dvd-mul_left}
+use Rattle.std.proofs.Common.{◌≡◌, ℕ, zero, suc, ◌+◌, ◌-◌, ◌*◌, ◌/◌, ◌<◌, ◌≤◌, ◌⊎◌, List, [], ◌∷◌, ℤ, pos, neg_ℤ, refl, ap, subst₂, inl, inr, add-zero, mul-le-mul_right, mul-le-mul_left, le-div_iff_mul-le, div-le_self, arith}
+use native.Mathlib.Nat.{le_of_mul-le-mul_left, mul-div-le, dvd-mul_left}
 use lib.IntN.{+ℤ_idr}
-use borrow.Author.Differences.{up, down, lt_out, same_in, below_in, neg_is, at_most_in, le_out}
-use Rattle.std.proofs.lemmas.Bool.{cases_lt, cases_order}
+use borrow.Author.Differences.{up, down, lt_out, same_in, below_in, neg_is, le_out}
+use Rattle.std.proofs.lemmas.Bool.{cases_order}
 use Rattle.std.proofs.lemmas.Int.{by_lt_z}
 use Rattle.handover.specs.Gcd.{gcd, Coprime}
 use Rattle.handover.proofs.Gcd.{gcd_is}
 use Rattle.handover.proofs.Rates.{whole_left, whole_right, gcd_pos, parts_coprime, common}
 use Rattle.handover.proofs.Positive.{right_pos}
 use Rattle.rules.specs.Net.{Net, Sound, stations, duration, rate, at_pace_lem, whole}
-use Rattle.rules.specs.Rules.{HasTimetable, NoTimetable}
+use Rattle.rules.specs.Rules.{HasTimetable}
 use Rattle.rules.specs.Steps.{Step, own, Circuit, PairAbove, PairCircuit, shares_of, time_of, ticks_of}
 use Rattle.rules.specs.Paces.{Fastest, Names, SlowerToo, FastestWhen, FastestOrPair, FastestNamed, FastestOne}
-use Rattle.rules.proofs.Differences.{Is}
 use Rattle.rules.proofs.Chains.{circuit_forbids_lem}
 use Rattle.rules.proofs.Paces.{circuit_at, sound_at, pair_at, pair_forbids_lem, pace_floor_lem}
 use Rattle.handover.proofs.Once.{upto}

@@ -1,10 +1,10 @@
 -- What the rules' numbers mean. Assumes nothing.
-use Rattle.std.proofs.Common.{◌≡◌, ℕ, ◌+◌, ◌-◌, ◌*◌, ◌<◌, ◌≤◌, ◌↔◌, ℤ, pos, ◌-ℤ◌, ◌≤ℤ◌, refl, mul-pos, arith}
+use Rattle.std.proofs.Common.{ℕ, ◌+◌, ◌-◌, ◌*◌, ◌≤◌, ◌↔◌, pos, ◌-ℤ◌, ◌≤ℤ◌, mul-pos, arith}
 use Rattle.handover.proofs.Count.{counts}
-use Rattle.rules.specs.Net.{Link, Net, Timetable, stations, rate, start, Sound, Fits}
-use Rattle.rules.specs.Rules.{period, lasts, begins, ends, begun, ended}
+use Rattle.rules.specs.Net.{start}
+use Rattle.rules.specs.Rules.{period, lasts, begun, ended}
 use Rattle.rules.specs.Theorems.{FiringsCounted, StocksKept}
-use Rattle.rules.proofs.Differences.{Is, is_pos, is_less, is_le}
+use Rattle.rules.proofs.Differences.{is_pos, is_less, is_le}
 
 pub firings_counted_lem : FiringsCounted
 firings_counted_lem N S T F i q t h hq =

@@ -1,13 +1,13 @@
 -- A net at other paces. Assumes nothing.
-use Rattle.std.proofs.Common.{◌≡◌, ℕ, ◌+◌, ◌*◌, ◌<◌, ◌≤◌, ◌⊎◌, List, [], ◌∷◌, map, ℤ, pos, ◌+ℤ◌, ◌*ℤ◌, neg_ℤ, ◌≤ℤ◌, ◌<ℤ◌, sym, refl, ap, ◌∙◌, subst, inl, inr, mul-le-mul_left, mul-pos, arith}
+use Rattle.std.proofs.Common.{◌≡◌, ℕ, ◌+◌, ◌*◌, ◌<◌, ◌≤◌, List, [], ◌∷◌, map, ℤ, pos, ◌+ℤ◌, ◌*ℤ◌, neg_ℤ, ◌<ℤ◌, sym, refl, ap, ◌∙◌, subst, inl, inr, mul-le-mul_left, mul-pos, arith}
 use borrow.Author.Differences.{up, down, sum_is_lem, lt_out, neg_is, below_in}
 use Rattle.std.proofs.lemmas.Bool.{cases_lt}
-use Rattle.rules.specs.Net.{Link, Net, Timetable, SoundLink, Sound, Fits, at_pace_lem}
-use Rattle.rules.specs.Rules.{Keeps, NoTimetable, HasTimetable}
+use Rattle.rules.specs.Net.{Link, Net, SoundLink, Sound, at_pace_lem}
+use Rattle.rules.specs.Rules.{NoTimetable}
 use Rattle.rules.specs.Steps.{Step, forward, back, own, Has, Chain, Circuit, PairAbove, leads_from, leads_to, shares, time, ticks, shares_of, time_of, ticks_of}
 use Rattle.handover.specs.Once.{Once}
 use Rattle.rules.specs.Theorems.{PairForbids, PaceFloor}
-use Rattle.rules.proofs.Differences.{Is, is_itself, is_pos, is_sum, is_times, is_lt}
+use Rattle.rules.proofs.Differences.{Is, is_itself, is_pos, is_sum, is_times}
 use Rattle.rules.proofs.Chains.{circuit_forbids_lem}
 
 -- A chain's length is B ticks for its time and A ticks for its shares

@@ -1,19 +1,18 @@
 -- How large lengths and the fastest pace can be. Assumes nothing.
-use Rattle.std.proofs.Common.{◌≡◌, ℕ, zero, suc, ◌+◌, ◌-◌, ◌*◌, ◌/◌, ◌<◌, ◌≤◌, List, [], ◌∷◌, map, length, ℤ, pos, ◌+ℤ◌, ◌-ℤ◌, ◌*ℤ◌, neg_ℤ, nat_abs, Some, None, Option, sym, refl, ap, ◌∙◌, subst, mul-le-mul_right, mul-le-mul, mul-le-mul_left, div-le_self, arith}
+use Rattle.std.proofs.Common.{◌≡◌, ℕ, suc, ◌+◌, ◌-◌, ◌*◌, ◌/◌, ◌≤◌, List, [], ◌∷◌, map, length, ℤ, pos, ◌+ℤ◌, ◌-ℤ◌, ◌*ℤ◌, neg_ℤ, nat_abs, Some, sym, ap, subst, mul-le-mul, mul-le-mul_left, div-le_self, arith}
 use native.Mathlib.Nat.{le_of_dvd}
 use lib.ListN.{length-map}
-use borrow.Author.Differences.{up, down, abs_is, sum_is_lem, neg_is}
+use borrow.Author.Differences.{abs_is, sum_is_lem, neg_is}
 use Rattle.handover.specs.Gcd.{gcd}
 use Rattle.handover.proofs.Gcd.{gcd_is}
 use Rattle.handover.proofs.Rates.{common}
 use Rattle.handover.proofs.Positive.{right_pos}
-use Rattle.rules.specs.Net.{Link, Net, stations, duration, rate, Open, SoundLink, Sound}
-use Rattle.rules.specs.Steps.{Step, forward, back, own, Has, Chain, Circuit, or_else, no_link, link, worth, grain, leads_from, leads_to, shares, time, ticks, shares_of, time_of, ticks_of}
-use Rattle.rules.specs.Paces.{Fastest, Names}
-use Rattle.rules.specs.Ranges.{LinkInRange, InRange, Sized, StepsSized, ChainsSized, FastestInRange}
+use Rattle.rules.specs.Net.{Link, Net, stations, duration, rate, Open, Sound}
+use Rattle.rules.specs.Steps.{Step, forward, back, own, Has, Chain, or_else, no_link, worth, grain, leads_to, shares, time, ticks, shares_of, time_of, ticks_of}
+use Rattle.rules.specs.Ranges.{InRange, Sized, StepsSized, ChainsSized, FastestInRange}
 use Rattle.rules.proofs.Differences.{Is, is_pos, is_neg, is_sum, is_less, is_times}
-use Rattle.handover.proofs.Once.{upto, once_few}
-use Rattle.rules.proofs.Existence.{chain_inside, from_inside, circuit_time}
+use Rattle.handover.proofs.Once.{once_few}
+use Rattle.rules.proofs.Existence.{chain_inside}
 use Rattle.rules.proofs.Fastest.{fastest_named_lem}
 
 within : (z : ℤ) (p n m : ℕ) → Is z p n → p ≤ n + m → n ≤ p + m → nat_abs z ≤ m

@@ -1,9 +1,9 @@
 -- A circuit from another of its stations. Assumes nothing.
-use Rattle.std.proofs.Common.{◌≡◌, ℕ, ◌+◌, ◌≤◌, ◌↔◌, List, [], ◌∷◌, ◌++◌, map, ℤ, pos, ◌+ℤ◌, sym, refl, ap, ◌∙◌, subst, arith}
+use Rattle.std.proofs.Common.{◌≡◌, ℕ, ◌+◌, ◌↔◌, List, [], ◌∷◌, ◌++◌, map, ◌+ℤ◌, sym, refl, ◌∙◌, subst, arith}
 use lib.IntN.{+ℤ_comm}
 use Rattle.std.proofs.lemmas.Int.{ints}
 use Rattle.rules.specs.Net.{Net}
-use Rattle.rules.specs.Steps.{Step, Has, Chain, Circuit, leads_from, leads_to, ticks, shares, time, ticks_of, shares_of, time_of}
+use Rattle.rules.specs.Steps.{Step, Chain, leads_from, leads_to, ticks_of, shares_of, time_of}
 use Rattle.handover.specs.Once.{Once}
 use Rattle.rules.specs.Theorems.{CircuitTurned}
 use Rattle.handover.proofs.Once.{over, is, once_count, count_once}

@@ -1,5 +1,5 @@
 -- The ranges of a net, and how large its lengths and its fastest pace can be. Assumes nothing.
-use Rattle.std.specs.Prelude.{◌≡◌, ℕ, ◌*◌, ◌<◌, ◌≤◌, List, length, ℤ, Some, Option, unsigned_abs}
+use Rattle.std.specs.Prelude.{◌≡◌, ℕ, ◌*◌, ◌<◌, ◌≤◌, List, length, ℤ, Some, unsigned_abs}
 use Rattle.rules.specs.Net.{Link, Net, stations, duration, rate, Open, Sound}
 use Rattle.rules.specs.Steps.{Step, Has, shares, time, ticks, shares_of, time_of, ticks_of, Chain}
 use Rattle.rules.specs.Paces.{Fastest}

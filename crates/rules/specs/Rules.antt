@@ -1,5 +1,5 @@
 -- What a timetable must keep. Instants are counted in the timetable's own fraction of a tick. Assumes nothing.
-use Rattle.std.specs.Prelude.{◌≡◌, ℕ, ◌+◌, ◌-◌, ◌*◌, ◌<◌, ◌≤◌, List, ℤ, pos, ◌-ℤ◌, Some, None, Option, slice_index}
+use Rattle.std.specs.Prelude.{◌≡◌, ℕ, ◌+◌, ◌-◌, ◌*◌, ◌<◌, ◌≤◌, List, ℤ, pos, ◌-ℤ◌, Some, slice_index}
 use Rattle.handover.specs.Supply.{count}
 use Rattle.rules.specs.Net.{Link, Net, Timetable, stations, duration, rate, start, Open, Fits, whole, at_pace_lem}
 

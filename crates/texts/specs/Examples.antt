@@ -1,5 +1,5 @@
 -- Texts, and what is right to say of them.
-use Rattle.std.specs.Prelude.{List, [], ◌∷◌, Some, None, codes}
+use Rattle.std.specs.Prelude.{[], ◌∷◌, None, codes}
 use Rattle.drafts.specs.declared.fault.DraftFault.TheVariants.{Range, Capacity}
 use Rattle.texts.specs.NetText.{Entries, Text, Refused, Broken}
 

@@ -1,5 +1,5 @@
 -- The program's net, read as the rules have it. Assumes nothing.
-use Rattle.std.proofs.Common.{◌≡◌, ℕ, ◌-◌, ◌*◌, ◌/◌, ◌<◌, ◌≤◌, List, map, length, get_or, take, ℤ, pos, ◌-ℤ◌, neg_ℤ, Some, None, Option, sym, ap, ◌∙◌, mul-le-mul, div-le_self, arith}
+use Rattle.std.proofs.Common.{◌≡◌, ℕ, ◌-◌, ◌*◌, ◌/◌, ◌<◌, ◌≤◌, get_or, ℤ, pos, ◌-ℤ◌, neg_ℤ, Some, None, Option, sym, ap, ◌∙◌, mul-le-mul, div-le_self, arith}
 use native.Mathlib.Nat.{le_of_dvd}
 use lib.ListN.{length-map, get_or-map}
 use Rattle.std.proofs.lemmas.List.{length-take, get_or-take}

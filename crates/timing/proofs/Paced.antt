@@ -10,7 +10,6 @@ use Rattle.rules.specs.Net as rules
 use Rattle.rules.specs.Net.{at_pace_lem, stations}
 use Rattle.rules.specs.Rules.{HasTimetable, NoPace}
 use Rattle.rules.specs.Steps.{own, PairCircuit}
-use Rattle.rules.specs.Ranges.{InRange}
 use Rattle.rules.proofs.Paces.{sound_at, circuit_at, shares_of_at, time_of_at, pair_forbids_lem}
 use Rattle.rules.proofs.Fastest.{rises, in_lowest}
 use Rattle.nets.specs.declared.Net.{Net}

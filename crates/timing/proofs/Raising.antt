@@ -1,5 +1,5 @@
 -- The pair of a circuit that was told, and what it says of paces. Assumes nothing.
-use Rattle.std.proofs.Common.{◌≡◌, ℕ, zero, suc, ◌+◌, ◌*◌, ◌<◌, ◌≤◌, Bool, true, false, cond, List, [], ◌∷◌, ◌++◌, map, length, get_or, take, ℤ, pos, ◌+ℤ◌, neg_ℤ, nat_abs, sym, refl, ap, ◌∙◌, subst, inl, inr, arith}
+use Rattle.std.proofs.Common.{◌≡◌, ℕ, suc, ◌+◌, ◌*◌, ◌<◌, ◌≤◌, Bool, true, false, cond, List, [], ◌∷◌, ◌++◌, map, length, get_or, take, ℤ, pos, ◌+ℤ◌, neg_ℤ, nat_abs, sym, refl, ap, ◌∙◌, subst, inl, inr, arith}
 use lib.ListN.{length-map, get_or-map}
 use lib.IntN.{+ℤ_idr}
 use lib.Signed.{lt_z}
@@ -9,7 +9,7 @@ use Rattle.handover.proofs.Positive.{right_pos}
 use Rattle.rules.specs.Net as rules
 use Rattle.rules.specs.Net.{Sound}
 use Rattle.rules.specs.Rules.{HasTimetable, NoPace}
-use Rattle.rules.specs.Steps.{Step, forward, Has, Chain, leads_to, shares, time, shares_of, time_of, ticks_of}
+use Rattle.rules.specs.Steps.{Step, forward, Has, shares, time, shares_of, time_of, ticks_of}
 use Rattle.rules.specs.Ranges.{InRange, Sized}
 use Rattle.rules.proofs.Chains.{chain_has}
 use Rattle.rules.proofs.Paces.{chain_pair, pair_forbids_lem}

@@ -1,5 +1,5 @@
 -- What the search in ticks says of the net. Assumes nothing.
-use Rattle.std.proofs.Common.{◌≡◌, ℕ, ◌<◌, false, List, [], ◌∷◌, map, length, get_or, ℤ, pos, ◌+ℤ◌, nat_abs, ◌<ℤ◌, sym, refl, ap, ◌∙◌, arith}
+use Rattle.std.proofs.Common.{◌≡◌, ℕ, ◌<◌, false, List, [], ◌∷◌, map, length, get_or, pos, ◌+ℤ◌, nat_abs, ◌<ℤ◌, sym, refl, ap, ◌∙◌, arith}
 use lib.ListN.{length-map}
 use lib.Signed.{lt_z}
 use borrow.Author.Differences.{abs_is, sum_is_lem, le_out, same_in}

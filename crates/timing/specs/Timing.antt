@@ -1,8 +1,8 @@
 -- What is answered of a net: its least timetable, or a circuit that leaves it none. Assumes nothing.
-use Rattle.std.specs.Prelude.{◌≡◌, ℕ, ◌<◌, ◌≤◌, List, map, length, get_or, take, ℤ, pos, ◌<ℤ◌, slice_index, slice_index_or, unsigned_abs}
+use Rattle.std.specs.Prelude.{◌≡◌, ℕ, ◌<◌, ◌≤◌, List, map, length, get_or, take, pos, ◌<ℤ◌, slice_index, slice_index_or, unsigned_abs}
 use Rattle.rules.specs.Net as rules
 use Rattle.rules.specs.Rules.{Least, NoTimetable}
-use Rattle.rules.specs.Steps.{Step, Circuit as Closed, leads_from, ticks, ticks_of}
+use Rattle.rules.specs.Steps.{Circuit as Closed, leads_from, ticks, ticks_of}
 use Rattle.lengths.specs.declared.Ticks.{Ticks}
 use Rattle.nets.specs.declared.Net.{Net}
 use Rattle.nets.specs.declared.Step as program

@@ -6,11 +6,11 @@ use Rattle.offers.proofs.survey.survey.Goals as goal
 
 pub returns : goal.returns
 returns c =
-    let N = c.in-ok-net.net.net in
-    let G = good N c.in-ok-net.net.good in
+    let N = c.in_ok-net.net.net in
+    let G = good N c.in_ok-net.net.good in
     record {
       net = of_net N;
-      offer = c.in-ok-net.ensures.offers;
+      offer = c.in_ok-net.ensures.offers;
       stations = sym (length-take-le N.stations N.durations (omega (arith, G.whole.few, G.whole.long)));
       rates = refl;
       fastest = c.in-Some.ensures.0;

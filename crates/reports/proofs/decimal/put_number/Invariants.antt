@@ -1,4 +1,4 @@
-use Rattle.std.proofs.Common.{◌≡◌, ◌+◌, ◌^◌, ◌<◌, ◌≤◌, ◌++◌, length, take, drop, decimal}
+use Rattle.std.proofs.Common.{◌≡◌, ◌+◌, ◌≤◌, ◌++◌, length, take, drop, decimal}
 use Rattle.reports.proofs.decimal.put_number.Given as goal
 
 abbrev pub invariant-loop-m : goal.invariant-loop-m

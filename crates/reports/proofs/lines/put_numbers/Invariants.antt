@@ -1,4 +1,4 @@
-use Rattle.std.proofs.Common.{◌∷◌, take, decimal}
+use Rattle.std.proofs.Common.{take, decimal}
 use Rattle.reports.specs.Bytes.{spaced}
 use Rattle.reports.specs.Pasted.{Wrote}
 use Rattle.reports.proofs.lines.put_numbers.Given as goal

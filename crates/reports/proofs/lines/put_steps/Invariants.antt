@@ -1,4 +1,4 @@
-use Rattle.std.proofs.Common.{◌∷◌, take}
+use Rattle.std.proofs.Common.{take}
 use Rattle.reports.specs.Bytes.{step_bytes}
 use Rattle.reports.specs.Bytes.{spaced}
 use Rattle.reports.specs.Pasted.{Wrote}

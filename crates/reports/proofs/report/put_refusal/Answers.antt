@@ -1,4 +1,4 @@
-use Rattle.std.proofs.Common.{◌≡◌, ℕ, ◌+◌, ◌^◌, ◌<◌, ◌≤◌, List, ◌++◌, length, Some, None, codes, decimal, Option, sym, ap, subst, arith, rules}
+use Rattle.std.proofs.Common.{◌^◌, ◌<◌, Some, None, codes, decimal, sym, subst, arith, rules}
 use Rattle.handover.proofs.Options.{none_some, some_same}
 use Rattle.reports.specs.Pasted.{Wrote}
 use Rattle.reports.specs.Bytes.{place_bytes, refusal_bytes}

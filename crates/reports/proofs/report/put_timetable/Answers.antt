@@ -1,4 +1,4 @@
-use Rattle.std.proofs.Common.{◌≡◌, ℕ, ◌+◌, ◌-◌, ◌^◌, ◌<◌, ◌≤◌, length, get_or, take, codes, decimal, subst, arith, rules}
+use Rattle.std.proofs.Common.{◌+◌, ◌-◌, ◌≤◌, length, take, codes, decimal, subst, arith, rules}
 use native.Mathlib.Nat.{sub-zero}
 use Rattle.reports.specs.Pasted.{Wrote}
 use Rattle.reports.specs.Bytes.{spaced, line, timetable_bytes}

@@ -1,4 +1,4 @@
-use Rattle.std.proofs.Common.{◌≡◌, length, take, ap, ◌∙◌, arith}
+use Rattle.std.proofs.Common.{◌≡◌, length, ap, ◌∙◌, arith}
 use lib.ListN.{length-map}
 use Rattle.nets.specs.Views.{of_net, of_link, of_slot}
 use Rattle.timing.specs.Listing.{links_to}

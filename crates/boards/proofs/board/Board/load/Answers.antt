@@ -1,4 +1,4 @@
-use Rattle.std.proofs.Common.{◌≡◌, length, take, drop, refl, rules}
+use Rattle.std.proofs.Common.{◌≡◌, take, refl, rules}
 use Rattle.nets.specs.Views.{of_net}
 use Rattle.boards.proofs.Writing.{written}
 use Rattle.boards.proofs.board.Board.load.Goals as goal

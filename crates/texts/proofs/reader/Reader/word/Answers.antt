@@ -1,7 +1,7 @@
 use Rattle.std.proofs.Common.{◌≡◌, ◌-◌, not, take, drop, sym, refl, ap, ◌∙◌, arith}
 use Rattle.std.specs.List.{prefix_len}
 use Rattle.std.proofs.lemmas.List.Sums.{prefix_len-drop_yes, prefix_len-drop_no, prefix_len-drop_all}
-use Rattle.texts.specs.Lexemes.{no_mark, is_mark_lem}
+use Rattle.texts.specs.Lexemes.{no_mark}
 use Rattle.texts.proofs.reader.Reader.word.Goals as goal
 use Rattle.texts.proofs.reader.Reader.word.Goals.{then-loop-end-test+else-not-is_mark, else-loop-end-test}
 
