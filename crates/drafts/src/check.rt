@@ -69,8 +69,8 @@ fn check_entries(
     ends: &[LinkEnds; 128],
     terms: &[LinkTerms; 128],
 ) -> Result<CheckedNet, DraftFault>
-    ensures checks { Checks sizes (record { durations = durations.entry.now; ends = ends.now; terms = terms.now }) result }
-    ensures whole { WholeTables (record { durations = durations.entry.now; ends = ends.now; terms = terms.now }) }
+    ensures checks { Checks sizes (record { durations = durations.now; ends = ends.now; terms = terms.now }) result }
+    ensures whole { WholeTables (record { durations = durations.now; ends = ends.now; terms = terms.now }) }
 {
     check_sizes(sizes)?;
     let links = sizes.links as usize;
