@@ -1,4 +1,4 @@
-pub mod Offering
 pub mod Writing
 pub mod Beginning
-pub mod Reporting
+pub mod Answering
+pub mod Misread

@@ -1,7 +1,5 @@
-pub mod Refusals
-pub mod Offers
+pub mod Settling
+pub mod Answering
 pub mod Loading
 pub mod Showing
-pub mod Surveys
 pub mod TextLoading
-pub mod Planning

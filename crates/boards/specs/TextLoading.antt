@@ -3,6 +3,7 @@ use Rattle.std.specs.Prelude.{ℕ, List, Ok, Err, Result}
 use Rattle.nets.specs.declared.CircuitStep.{CircuitStep}
 use Rattle.drafts.specs.declared.stage.NetSizes.{NetSizes}
 use Rattle.drafts.specs.declared.tables.Tables.{Tables}
+use Rattle.drafts.specs.Checks.{WholeTables}
 use Rattle.texts.specs.Faults.{Worded, said}
 use Rattle.texts.specs.NetText as texts
 use Rattle.texts.specs.Outcomes.{entries_of}
@@ -15,6 +16,7 @@ use Rattle.boards.specs.Loading.{Same, Loaded}
 pub record ByDraft (text : List ℕ) (P : NetSizes → Tables → Type 0) : Type 0 where
   pub sizes : NetSizes
   pub tables : Tables
+  pub whole : WholeTables tables
   pub spelt : texts.Text text (entries_of sizes tables)
   pub loads : P sizes tables
 

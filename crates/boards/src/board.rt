@@ -1,17 +1,12 @@
-ghost use Rattle.std.specs.Prelude.{take};
-ghost use Rattle.rules.specs.Rules.{Least};
-ghost use Rattle.nets.specs.Views.{of_net};
-
-use nets::sound::SoundNet;
+use nets::timed::TimedNet;
 
 mod load;
 mod load_text;
+mod settle;
 mod shown;
 
-// A net, and its least timetable: the starts of its stations, in ticks.
+// A net with its least timetable.
 #[derive(Drop)]
 pub struct Board {
-    net: SoundNet,
-    starts: [u64; 64],
-    ghost least: { ∥ Least (of_net net.net) (take net.net.stations starts) ∥₁ },
+    timed: TimedNet,
 }

@@ -2,7 +2,4 @@
 #![tactic(auto)]
 
 pub mod board;
-pub mod plan;
-pub mod refusal;
-pub mod survey;
 pub mod text;

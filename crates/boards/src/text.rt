@@ -1,7 +1,7 @@
 ghost use Rattle.std.specs.Prelude.{◌≡◌};
 ghost use Rattle.boards.specs.declared.text.LoadFault.TheVariants.{Text, Board};
 
-use crate::refusal::Refusal;
+use offers::refusal::Refusal;
 use texts::fault::TextFault;
 
 // Why a text is not loaded: it is at fault itself, or the board refuses its net.

@@ -8,13 +8,13 @@ ghost use Rattle.std.specs.Prelude.{◌<◌};
 
 use anyhow::anyhow;
 use boards::board::Board;
-use boards::plan::plan;
-use boards::survey::survey;
 use boards::text::LoadFault;
 use drafts::fault::DraftFault;
 use drafts::stage::{Durations, NetSizes, Sizes};
 use drafts::tables::Tables;
 use nets::{CircuitStep, Pace, Step};
+use offers::survey::survey;
+use plans::plan;
 use std::alloc::AllocError;
 use std::io::{BufRead, BufReader, Write};
 use texts::read;

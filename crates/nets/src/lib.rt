@@ -2,6 +2,8 @@
 
 #![tactic(auto)]
 
+use std::fmt;
+
 pub mod checked;
 pub mod sound;
 pub mod timed;
@@ -59,4 +61,20 @@ pub enum Step {
 pub struct CircuitStep {
     pub step: Step,
     pub length: i64,
+}
+
+// What is told of a refusal: its number, and its place, if it tells one.
+#[derive(Clone, Copy, Debug, PartialEq, Eq)]
+pub struct Notice {
+    pub number: u8,
+    pub place: Option<u64>,
+}
+
+impl fmt::Display for Notice {
+    fn fmt<W: fmt::Write>(&self, f: &mut fmt::Formatter<W>) -> fmt::Result {
+        match self.place {
+            Some(place) => write!(f, "refused {} {place}", self.number),
+            None => write!(f, "refused {}", self.number),
+        }
+    }
 }

@@ -3,7 +3,7 @@
 
 ghost use Rattle.std.specs.Prelude.{◌≤◌, length, IfOk};
 
-use boards::plan::plan;
+use plans::plan;
 use std::io;
 use std::io::{Read, Write};
 

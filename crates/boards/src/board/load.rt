@@ -1,13 +1,16 @@
-ghost use Rattle.std.specs.Prelude.{◌≡◌};
+ghost use Rattle.std.specs.Prelude.{length};
+ghost use Rattle.drafts.specs.Checks.{WholeTables};
+ghost use Rattle.texts.specs.Outcomes.{entries_of};
+ghost use Rattle.ledger.specs.Calls.{load, entries};
 ghost use Rattle.boards.specs.Loading.{Loaded};
+ghost use Rattle.boards.specs.Answering.{change_answer, Changed};
 
 use crate::board::Board;
-use crate::refusal::Refusal;
-use crate::survey::offered_net;
 use drafts::stage::Filled;
 use drafts::tables::Tables;
 use nets::CircuitStep;
-use timing::least_timetable;
+use offers::refusal::Refusal;
+use offers::survey::offered_net;
 
 impl Board {
     // Takes the net of a filled draft in place of the one that it holds. Where that has no timetable, a circuit stands at the front of the list then.
@@ -17,24 +20,27 @@ impl Board {
         tables: &Tables,
         list: &mut [CircuitStep],
     ) -> Result<(), Refusal>
-        ensures { Loaded filled.now.sizes tables.now self.old list.old result self.new list.new }
+        ensures loaded { Loaded filled.now.sizes tables.now self.old list.old result self.new list.new }
+        ensures whole { WholeTables tables.now }
+        ensures changed { Changed self.old (load (entries (entries_of filled.now.sizes tables.now)) (length list.old)) list.old (change_answer result list.new) self.new list.new }
     {
+        self.load_draft(filled, tables, list)
+    }
+
+    fn load_draft(
+        &mut self,
+        filled: &Filled,
+        tables: &Tables,
+        list: &mut [CircuitStep],
+    ) -> Result<(), Refusal>
+        ensures loaded { Loaded filled.now.sizes tables.now self.old list.old result self.new list.new }
+        ensures whole { WholeTables tables.now }
+    {
+        let offered = offered_net(filled, tables);
         if list.len() < 64 {
             return Err(Refusal::ShortList(list.len()));
         }
-        let net = offered_net(filled, tables)?;
-        match least_timetable(&net) {
-            Ok(starts) => {
-                let ticks = starts.ticks;
-                self.net = net;
-                self.starts = ticks;
-                Ok(())
-            }
-            Err(circuit) => {
-                let front = &mut list[0..circuit.count];
-                front.copy_from_slice(&circuit.steps[0..circuit.count]);
-                Err(Refusal::NoTimetable(circuit.count))
-            }
-        }
+        let net = offered?;
+        self.settle(net, list)
     }
 }

@@ -1,11 +1,12 @@
 ghost use Rattle.std.specs.Prelude.{◌≡◌, ◌*◌, ◌≤◌, map, take};
 ghost use Rattle.reports.specs.Bytes.{timetable_bytes};
 ghost use Rattle.reports.specs.Reported.{Reported};
-ghost use Rattle.boards.specs.Loading.{net_of, starts_of};
+ghost use Rattle.boards.specs.Settling.{net_of, starts_of};
 ghost use Rattle.boards.specs.Showing.{new_net_lem, periods_of};
 
 use crate::board::Board;
 use nets::sound::SoundNet;
+use nets::timed::TimedNet;
 use nets::{Net, Pace};
 use reports::report::{ShortBuffer, report_timetable};
 use reports::told::Timetable;
@@ -42,22 +43,23 @@ fn periods(stations: u8, share: u32, rates: &[u16; 64]) -> [u64; 64]
 impl Board {
     // A board with one station of duration 1, no link and pace 1/1.
     pub fn new() -> Board
-        ensures { result.net.net ≡ new_net_lem }
+        ensures { result.timed.net.net ≡ new_net_lem }
     {
         let net = SoundNet { net: new_net() };
-        Board {
+        let timed = TimedNet {
             net,
             starts: [0; 64],
-        }
+        };
+        Board { timed }
     }
 
     // The report of the timetable that it shows: its length in bytes.
     pub fn report(&self, out: &mut [u8]) -> Result<usize, ShortBuffer>
-        ensures { Reported (timetable_bytes self.now.net.net.stations (starts_of self.now) (periods_of (net_of self.now))) out.old out.new result }
+        ensures { Reported (timetable_bytes self.now.timed.net.net.stations (starts_of self.now) (periods_of (net_of self.now))) out.old out.new result }
     {
-        let net = &self.net.net;
+        let net = &self.timed.net.net;
         let periods = periods(net.stations, net.pace.share, &net.rates);
-        let starts = self.starts;
+        let starts = self.timed.starts;
         let timetable = Timetable {
             stations: net.stations,
             starts,

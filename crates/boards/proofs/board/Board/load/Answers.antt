@@ -1,20 +1,14 @@
-use Rattle.std.proofs.Common.{◌≡◌, take, refl, rules}
-use Rattle.nets.specs.Views.{of_net}
-use Rattle.boards.proofs.Writing.{written}
+use Rattle.std.proofs.Common.{[], refl, arith}
+use Rattle.ledger.specs.Calls.{entries}
+use Rattle.texts.specs.Outcomes.{entries_of}
+use Rattle.boards.proofs.Answering.{loaded_changed}
 use Rattle.boards.proofs.board.Board.load.Goals as goal
 
-pub invariant_of-self : goal.invariant_of-self
-invariant_of-self c = record { least = ∣ c.in-Ok.ensures.least ∣₁ }
-
-pub returns-in-Err : goal.returns-in-Err
-returns-in-Err c =
-    let R = c.in-Err.ensures in
-    let f : c.copy_from_slice.new.self ≡ take c.in-Err.circuit.count c.in-Err.circuit.steps = search rules in (
-      c.if-list-lt64.false,
-      (
-        of_net c.in_ok-net.net.net,
-        c.in_ok-net.ensures,
-        written (of_net c.in_ok-net.net.net) c.in-Err.circuit.count c.args.list.now c.in-Err.circuit.steps c.copy_from_slice.new.self _ R.few R.long f (search rules) R.told,
-      ),
-      refl,
-    )
+pub returns : goal.returns
+returns c = record {
+  loaded = c.load_draft.ensures.loaded;
+  whole = c.load_draft.ensures.whole;
+  changed =
+      loaded_changed c.args.filled.now.sizes c.args.tables.now c.load_draft.ensures.whole c.args.self.now c.load_draft.new.self
+      (entries (entries_of c.args.filled.now.sizes c.args.tables.now)) c.args.list.now c.load_draft.new.list (omega arith) refl [] refl tt c.load_draft.result c.load_draft.ensures.loaded;
+}

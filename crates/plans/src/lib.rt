@@ -1,12 +1,14 @@
 // The whole way from a net text to the bytes of a report.
+#![tactic(auto)]
+
 ghost use Rattle.std.specs.Prelude.{◌≤◌, length, IfOk};
 ghost use Rattle.reports.specs.Reported.{Reported};
-ghost use Rattle.boards.specs.Planning.{Tellable, told_bytes, Planned};
+ghost use Rattle.plans.specs.Planning.{Tellable, told_bytes, Planned};
 
-use crate::board::Board;
-use crate::refusal::Refusal;
-use crate::text::LoadFault;
+use boards::board::Board;
+use boards::text::LoadFault;
 use nets::{CircuitStep, Step};
+use offers::refusal::Refusal;
 use reports::report::{ShortBuffer, report_circuit, report_refusal};
 use reports::told::Circuit;
 

@@ -23,15 +23,15 @@ use Rattle.reports.specs.Bytes.{timetable_bytes, refusal_bytes}
 use Rattle.reports.specs.Steps.{step_number, no_step}
 use Rattle.reports.specs.Reported.{Reported}
 use Rattle.boards.specs.declared.board.Board.{Board}
-use Rattle.boards.specs.declared.refusal.Refusal.{Refusal}
-use Rattle.boards.specs.declared.refusal.Refusal.TheVariants.{ShortList, Draft, CutOff, NoRates, NoTimetable, NoPace}
-use Rattle.boards.specs.Loading.{net_of, starts_of}
+use Rattle.offers.specs.declared.refusal.Refusal.{Refusal}
+use Rattle.offers.specs.declared.refusal.Refusal.TheVariants.{ShortList, Draft, Call, CutOff, NoRates, NoTimetable, NoPace}
+use Rattle.boards.specs.Settling.{net_of, starts_of}
 use Rattle.boards.specs.Showing.{periods_of}
 use Rattle.nets.proofs.Alone.{good}
 use Rattle.boards.specs.declared.text.LoadFault.{LoadFault}
 use Rattle.boards.specs.declared.text.LoadFault.TheVariants as faults
 use Rattle.boards.specs.TextLoading.{LoadedText}
-use Rattle.boards.specs.Planning.{told_bytes, Bounded, Tellable, Reports, unformed, misnumbered, unoffered, timed, untimed, Planned}
+use Rattle.plans.specs.Planning.{told_bytes, Bounded, Tellable, Reports, unformed, misnumbered, unoffered, timed, untimed, Planned}
 
 -- a report ends within its buffer
 ends_within : (bytes out out' : List ℕ) (r : Result ℕ ShortBuffer) → length out' ≡ length out → Reported bytes out out' r → IfOk r (λ n. n ≤ length out)
@@ -89,10 +89,10 @@ text_planned text out out' r f told e h w =
 -- A net text
 
 pub shown : (text out out' : List ℕ) (r : Result ℕ ShortBuffer) (b b' : Board) (list list' : List CircuitStep) → LoadedText text b list (Ok tt) b' list' →
-    Reported (timetable_bytes b'.net.net.stations (starts_of b') (periods_of (net_of b'))) out out' r → Planned text out out' r
+    Reported (timetable_bytes b'.timed.net.net.stations (starts_of b') (periods_of (net_of b'))) out out' r → Planned text out out' r
 shown text out out' r b b' list list' L w =
-    let G = good b'.net.net b'.net.good in
-    let n : stations (net_of b') ≡ b'.net.net.stations = length-take-le b'.net.net.stations b'.net.net.durations (omega (arith, G.whole.few, G.whole.long)) in
+    let G = good b'.timed.net.net b'.timed.net.good in
+    let n : stations (net_of b') ≡ b'.timed.net.net.stations = length-take-le b'.timed.net.net.stations b'.timed.net.net.durations (omega (arith, G.whole.few, G.whole.long)) in
     record {
       bytes = timetable_bytes (stations (net_of b')) (starts_of b') (periods_of (net_of b'));
       reports = timed L.sizes L.tables (net_of b') (starts_of b') L.spelt L.loads.1 L.loads.2;
@@ -109,6 +109,7 @@ module _ (text : List ℕ) (b b' : Board) (list list' : List CircuitStep) (long 
   bounds : (r : Refusal) → LoadedText text b list (Err (faults.Board r)) b' list' → Tellable r list'
   bounds (ShortList n) L = tt
   bounds (Draft f) L = tt
+  bounds (Call f) L = tt
   bounds (CutOff y) L = tt
   bounds NoRates L = tt
   bounds (NoTimetable n) L =
@@ -119,6 +120,7 @@ module _ (text : List ℕ) (b b' : Board) (list list' : List CircuitStep) (long 
   reported : (r : Refusal) → LoadedText text b list (Err (faults.Board r)) b' list' → Reports text (told_bytes r list')
   reported (ShortList n) L = absurd (omega (arith, L.loads.0))
   reported (Draft f) L = unoffered L.sizes L.tables (Draft f) L.spelt L.loads.1
+  reported (Call f) L = absurd L.loads
   reported (CutOff y) L = unoffered L.sizes L.tables (CutOff y) L.spelt L.loads.1
   reported NoRates L = unoffered L.sizes L.tables NoRates L.spelt L.loads.1
   reported (NoTimetable n) L =

@@ -3,6 +3,7 @@ use Rattle.std.specs.Prelude.{ℕ, ◌^◌, ◌<◌, ◌≤◌, List, take, Some
 use Rattle.rules.specs.Net.{Net, stations}
 use Rattle.rules.specs.Rules.{Least}
 use Rattle.nets.specs.declared.CircuitStep.{CircuitStep}
+use Rattle.checks.specs.Faults as calls
 use Rattle.drafts.specs.Faults as drafts
 use Rattle.drafts.specs.declared.fault.DraftFault.{DraftFault}
 use Rattle.drafts.specs.declared.stage.NetSizes.{NetSizes}
@@ -14,16 +15,17 @@ use Rattle.reports.specs.declared.report.ShortBuffer.{ShortBuffer}
 use Rattle.reports.specs.Bytes.{timetable_bytes, circuit_bytes, refusal_bytes}
 use Rattle.reports.specs.Steps.{step_number, no_step}
 use Rattle.reports.specs.Reported.{Reported}
-use Rattle.boards.specs.declared.refusal.Refusal.{Refusal}
-use Rattle.boards.specs.declared.refusal.Refusal.TheVariants.{ShortList, Draft, CutOff, NoRates, NoTimetable, NoPace}
-use Rattle.boards.specs.Refusals.{told_of}
-use Rattle.boards.specs.Offers.{Offer, Offers}
+use Rattle.offers.specs.declared.refusal.Refusal.{Refusal}
+use Rattle.offers.specs.declared.refusal.Refusal.TheVariants.{ShortList, Draft, Call, CutOff, NoRates, NoTimetable, NoPace}
+use Rattle.offers.specs.Refusals.{told_of}
+use Rattle.offers.specs.Offers.{Offer, Offers}
 use Rattle.boards.specs.Showing.{periods_of}
 
 -- The bytes of a refusal, with the circuit at the front of the list where it is for want of a timetable.
 abbrev pub told_bytes : Refusal → List CircuitStep → List ℕ
 told_bytes (ShortList length) list = refusal_bytes 6 (Some length)
 told_bytes (Draft f) list = refusal_bytes (drafts.told_of f).0 (Some (drafts.told_of f).1)
+told_bytes (Call f) list = refusal_bytes (calls.told_of f).0 (Some (calls.told_of f).1)
 told_bytes (CutOff y) list = refusal_bytes 10 (Some y)
 told_bytes NoRates list = refusal_bytes 11 None
 told_bytes (NoTimetable n) list = circuit_bytes (take n list)
@@ -38,6 +40,7 @@ pub record Bounded (n : ℕ) (list : List CircuitStep) : Type 0 where
 abbrev pub Tellable : Refusal → List CircuitStep → Type 0
 Tellable (ShortList length) list = Unit {0}
 Tellable (Draft f) list = Unit {0}
+Tellable (Call f) list = Unit {0}
 Tellable (CutOff y) list = Unit {0}
 Tellable NoRates list = Unit {0}
 Tellable (NoTimetable n) list = Bounded n list
