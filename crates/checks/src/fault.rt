@@ -1,8 +1,10 @@
-ghost use Rattle.std.specs.Prelude.{◌≡◌};
+ghost use Rattle.std.specs.Prelude.{◌≡◌, Some};
 ghost use Rattle.checks.specs.Faults.{told_of};
 
+use nets::Notice;
+
 // Why a change or a question is refused, by its numbers and the board's links.
-#[derive(Clone, Copy)]
+#[derive(Clone, Copy, Debug, PartialEq, Eq)]
 pub enum CallFault {
     // The call's number of this place, counted from 1, is out of range.
     Range(u8),
@@ -18,15 +20,16 @@ pub enum CallFault {
 
 impl CallFault {
     // The refusal's number, and the place that it tells.
-    pub fn told(&self) -> (u8, u8)
-        ensures { result ≡ told_of self.now }
+    pub fn told(&self) -> Notice
+        ensures number { result.number ≡ (told_of self.now).0 }
+        ensures place { result.place ≡ Some (told_of self.now).1 }
     {
         match *self {
-            CallFault::Range(which) => (2, which),
-            CallFault::Capacity(link) => (5, link),
-            CallFault::Unbalanced(link) => (12, link),
-            CallFault::InUse(link) => (13, link),
-            CallFault::NotOpen(link) => (14, link),
+            CallFault::Range(which) => Notice::at(2, which as u64),
+            CallFault::Capacity(link) => Notice::at(5, link as u64),
+            CallFault::Unbalanced(link) => Notice::at(12, link as u64),
+            CallFault::InUse(link) => Notice::at(13, link as u64),
+            CallFault::NotOpen(link) => Notice::at(14, link as u64),
         }
     }
 }

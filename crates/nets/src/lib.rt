@@ -2,6 +2,8 @@
 
 #![tactic(auto)]
 
+ghost use Rattle.std.specs.Prelude.{◌≡◌, Some, None};
+
 use std::fmt;
 
 pub mod checked;
@@ -68,6 +70,30 @@ pub struct CircuitStep {
 pub struct Notice {
     pub number: u8,
     pub place: Option<u64>,
+}
+
+impl Notice {
+    // A notice that tells a place.
+    pub fn at(number: u8, place: u64) -> Notice
+        ensures number { result.number ≡ number }
+        ensures place { result.place ≡ Some place }
+    {
+        Notice {
+            number,
+            place: Some(place),
+        }
+    }
+
+    // One that tells none.
+    pub fn bare(number: u8) -> Notice
+        ensures number { result.number ≡ number }
+        ensures place { result.place ≡ None }
+    {
+        Notice {
+            number,
+            place: None,
+        }
+    }
 }
 
 impl fmt::Display for Notice {

@@ -1,9 +1,9 @@
 -- What a survey tells of a draft. Assumes nothing.
-use Rattle.std.specs.Prelude.{◌≡◌, take, Ok, Err, Result}
-use Rattle.rules.specs.Net as nets
+use Rattle.std.specs.Prelude.{Ok, Err, Result}
 use Rattle.rules.specs.Net.{Net}
 use Rattle.rules.specs.Rules as rules
 use Rattle.rules.specs.Paces.{Fastest}
+use Rattle.nets.specs.Views.{of_net}
 use Rattle.drafts.specs.declared.stage.NetSizes.{NetSizes}
 use Rattle.drafts.specs.declared.tables.Tables.{Tables}
 use Rattle.timing.specs.Pacing.{PaceInRange}
@@ -12,13 +12,10 @@ use Rattle.offers.specs.declared.refusal.Refusal.TheVariants.{ShortList, Draft, 
 use Rattle.offers.specs.declared.survey.NetSurvey.{NetSurvey}
 use Rattle.offers.specs.Offers.{Offer, Offers}
 
--- The rates of the draft's net, and its fastest pace, which is one that a net can have.
+-- The draft's net with its rates, and its fastest pace, which is one that a net can have.
 pub record Told (s : NetSizes) (t : Tables) (v : NetSurvey) : Type 0 where
-  pub net : Net
-  pub offer : Offer s t net
-  pub stations : v.stations ≡ nets.stations net
-  pub rates : take v.stations v.rates ≡ net.rates
-  pub fastest : Fastest net v.fastest.share v.fastest.unit
+  pub offer : Offer s t (of_net v.net.net)
+  pub fastest : Fastest (of_net v.net.net) v.fastest.share v.fastest.unit
   pub range : PaceInRange v.fastest
 
 -- They are told; or the first check that fails: an entry at fault, a station cut off, no rates, no pace with a timetable.

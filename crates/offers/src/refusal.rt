@@ -5,6 +5,7 @@ ghost use Rattle.offers.specs.Refusals.{of_rates};
 
 use checks::fault::CallFault;
 use drafts::fault::DraftFault;
+use nets::Notice;
 use rates::RateFault;
 
 // Why a net or a change is not taken, or a question not answered.
@@ -28,23 +29,21 @@ pub enum Refusal {
 
 impl Refusal {
     // The refusal's number, and the place that it tells, if any: of a circuit the count of its steps.
-    pub fn told(&self) -> (u8, Option<u64>)
-        ensures { result ≡ told_of self.now }
+    pub fn told(&self) -> Notice
+        ensures number { result.number ≡ (told_of self.now).0 }
+        ensures place { result.place ≡ (told_of self.now).1 }
     {
         match *self {
-            Refusal::ShortList(length) => (6, Some(length as u64)),
+            Refusal::ShortList(length) => Notice::at(6, length as u64),
             Refusal::Draft(fault) => {
                 let (number, place) = fault.told();
-                (number, Some(place as u64))
+                Notice::at(number, place as u64)
             }
-            Refusal::Call(fault) => {
-                let (number, place) = fault.told();
-                (number, Some(place as u64))
-            }
-            Refusal::CutOff(station) => (10, Some(station as u64)),
-            Refusal::NoRates => (11, None),
-            Refusal::NoTimetable(steps) => (20, Some(steps as u64)),
-            Refusal::NoPace => (21, None),
+            Refusal::Call(fault) => fault.told(),
+            Refusal::CutOff(station) => Notice::at(10, station as u64),
+            Refusal::NoRates => Notice::bare(11),
+            Refusal::NoTimetable(steps) => Notice::at(20, steps as u64),
+            Refusal::NoPace => Notice::bare(21),
         }
     }
 }

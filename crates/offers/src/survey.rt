@@ -22,11 +22,10 @@ pub fn offered_net(filled: &Filled, tables: &Tables) -> Result<SoundNet, Refusal
     Ok(net)
 }
 
-// The rates of a net, of its first `stations` stations, and the fastest pace at which it has a timetable.
+// A net with its rates, and the fastest pace at which it has a timetable.
 #[derive(Clone, Copy)]
 pub struct NetSurvey {
-    pub stations: u8,
-    pub rates: [u16; 64],
+    pub net: SoundNet,
     pub fastest: Pace,
 }
 
@@ -35,13 +34,6 @@ pub fn survey(filled: &Filled, tables: &Tables) -> Result<NetSurvey, Refusal>
     ensures { Surveyed filled.now.sizes tables.now result }
 {
     let net = offered_net(filled, tables)?;
-    let Some(fastest) = fastest_pace(&net) else {
-        return Err(Refusal::NoPace);
-    };
-    let rates = net.net.rates;
-    Ok(NetSurvey {
-        stations: net.net.stations,
-        rates,
-        fastest,
-    })
+    let fastest = fastest_pace(&net).ok_or(Refusal::NoPace)?;
+    Ok(NetSurvey { net, fastest })
 }
