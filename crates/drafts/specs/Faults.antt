@@ -14,14 +14,6 @@ told_of (Capacity link) = (5, link)
 abbrev pub outside : ℕ → ℕ → ℕ → Bool
 outside low high value = nat_lt value low || nat_lt high value
 
--- The number, where it lies from low to high; else the fault that tells which number of its entry it is.
-abbrev pub judged : ℕ → ℕ → ℕ → ℕ → Result ℕ DraftFault
-judged which low high value = cond (outside low high value) (Err (Range which)) (Ok value)
-
--- The same for a station: it is one of so many, numbered from 0.
-abbrev pub placed : ℕ → ℕ → ℕ → Result ℕ DraftFault
-placed which stations value = cond (nat_le stations value) (Err (Range which)) (Ok value)
-
 -- The fault of a check, if there is one.
 abbrev pub faulted : Result (Unit {0}) DraftFault → Option DraftFault
 faulted (Ok _) = None
@@ -40,3 +32,16 @@ range_fault which low high value = fault_if (outside low high value) (Range whic
 
 abbrev pub station_fault : ℕ → ℕ → ℕ → Option DraftFault
 station_fault which stations value = fault_if (nat_le stations value) (Range which)
+
+-- The value, where there is no fault of it.
+abbrev pub judged_by : Option DraftFault → ℕ → Result ℕ DraftFault
+judged_by None value = Ok value
+judged_by (Some f) value = Err f
+
+-- The number, where it lies from low to high; else the fault that tells which number of its entry it is.
+abbrev pub judged : ℕ → ℕ → ℕ → ℕ → Result ℕ DraftFault
+judged which low high value = judged_by (range_fault which low high value) value
+
+-- The same for a station: it is one of so many, numbered from 0.
+abbrev pub placed : ℕ → ℕ → ℕ → Result ℕ DraftFault
+placed which stations value = judged_by (station_fault which stations value) value
