@@ -1,5 +1,5 @@
 -- What a draft's faults tell, and when a number is in range. Assumes nothing.
-use Rattle.std.specs.Prelude.{ℕ, Bool, cond, ◌||◌, Some, None, Ok, Err, Option, Result, nat_le, nat_lt}
+use Rattle.std.specs.Prelude.{◌≡◌, ℕ, ◌+◌, ◌-◌, ◌^◌, ◌<◌, min, Bool, cond, ◌||◌, Some, None, Ok, Err, Option, Result, nat_le, nat_lt}
 use Rattle.drafts.specs.declared.fault.DraftFault.{DraftFault}
 use Rattle.drafts.specs.declared.fault.DraftFault.TheVariants.{Range, Missing, PastSize, Capacity}
 
@@ -45,3 +45,8 @@ judged which low high value = judged_by (range_fault which low high value) value
 -- The same for a station: it is one of so many, numbered from 0.
 abbrev pub placed : ℕ → ℕ → ℕ → Result ℕ DraftFault
 placed which stations value = judged_by (station_fault which stations value) value
+
+-- A number of more than 64 bits has the fault of the largest of 64 bits, and none is in range from there on.
+pub record Capped (fault : ℕ → Option DraftFault) : Type 0 where
+  pub same : (v : ℕ) → fault v ≡ fault (min v (2 ^ 64 - 1))
+  pub small : (v : ℕ) → fault v ≡ None → v + 1 < 2 ^ 64

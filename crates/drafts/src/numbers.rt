@@ -1,6 +1,6 @@
 // The numbers of a draft's entries, and where each has to lie.
-ghost use Rattle.std.specs.Prelude.{◌≡◌};
-ghost use Rattle.drafts.specs.Faults.{judged, placed, judged_by};
+ghost use Rattle.std.specs.Prelude.{◌≡◌, ◌-◌, ◌^◌, ◌<◌};
+ghost use Rattle.drafts.specs.Faults.{judged as judged_lem, placed, judged_by, range_fault, station_fault, Capped};
 ghost use Rattle.drafts.specs.Numbers.{fault_of};
 
 use crate::fault::DraftFault;
@@ -28,9 +28,10 @@ pub enum Number {
 }
 
 impl Number {
-    // A value of any size, where it is in range; else the draft's fault, which tells the number's place in its entry.
+    // The value, where it is in range; else the draft's fault, which tells the number's place in its entry. The largest `u64` may stand for all above it.
     pub fn judge(self, value: u64) -> Result<u64, DraftFault>
-        ensures { result ≡ judged_by (fault_of self value) value }
+        ensures judged { result ≡ judged_by (fault_of self value) value }
+        ensures capped { Capped (fault_of self) }
     {
         match self {
             Number::Stations => within(1, 1, 64, value),
@@ -50,7 +51,9 @@ impl Number {
 
 // From low to high.
 fn within(which: u8, low: u64, high: u64, value: u64) -> Result<u64, DraftFault>
-    ensures { result ≡ judged which low high value }
+    requires { high < 2 ^ 64 - 1 }
+    ensures judged { result ≡ judged_lem which low high value }
+    ensures capped { Capped (range_fault which low high) }
 {
     if value < low || value > high {
         return Err(DraftFault::Range(which));
@@ -60,7 +63,8 @@ fn within(which: u8, low: u64, high: u64, value: u64) -> Result<u64, DraftFault>
 
 // One of so many, counted from 0.
 fn below(which: u8, count: u8, value: u64) -> Result<u64, DraftFault>
-    ensures { result ≡ placed which count value }
+    ensures judged { result ≡ placed which count value }
+    ensures capped { Capped (station_fault which count) }
 {
     if value >= u64::from(count) {
         return Err(DraftFault::Range(which));
