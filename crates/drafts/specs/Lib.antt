@@ -1,4 +1,5 @@
 pub mod Faults
+pub mod Numbers
 pub mod Entries
 pub mod Stages
 pub mod Checks

@@ -9,6 +9,7 @@ use Rattle.drafts.specs.declared.stage.Durations.{Durations}
 use Rattle.drafts.specs.declared.stage.Ends.{Ends}
 use Rattle.drafts.specs.declared.stage.Terms.{Terms}
 use Rattle.drafts.specs.declared.stage.Filled.{Filled}
+use Rattle.drafts.specs.declared.stage.moves.Left.{Left}
 use Rattle.drafts.specs.declared.fault.DraftFault.{DraftFault}
 use Rattle.drafts.specs.declared.fault.DraftFault.TheVariants.{Missing, PastSize}
 use Rattle.drafts.specs.Faults.{or_else, fault_if}
@@ -62,22 +63,22 @@ TookTerms s t e r s' t' =
     × (s' ≡ s) × (t' ≡ t))
 
 -- All entries are held, and the next stage holds none; or some are missing, and the stage comes back as it was.
-abbrev pub LeftSizes : Sizes → Result Durations (Sizes × DraftFault) → Type 0
+abbrev pub LeftSizes : Sizes → Result Durations (Left Sizes) → Type 0
 LeftSizes s r =
     MatchResult r (λ d. (s.held ≡ 1) × (d.sizes ≡ s.entry) × (d.held ≡ 0))
-    (λ p. (s.held < 1) × (p.0 ≡ s) × (p.1 ≡ Missing s.held))
+    (λ left. (s.held < 1) × (left.stage ≡ s) × (left.fault ≡ Missing s.held))
 
-abbrev pub LeftDurations : Durations → Result Ends (Durations × DraftFault) → Type 0
+abbrev pub LeftDurations : Durations → Result Ends (Left Durations) → Type 0
 LeftDurations s r =
     MatchResult r (λ e. (s.held ≡ s.sizes.stations) × (e.sizes ≡ s.sizes) × (e.held ≡ 0))
-    (λ p. (s.held < s.sizes.stations) × (p.0 ≡ s) × (p.1 ≡ Missing s.held))
+    (λ left. (s.held < s.sizes.stations) × (left.stage ≡ s) × (left.fault ≡ Missing s.held))
 
-abbrev pub LeftEnds : Ends → Result Terms (Ends × DraftFault) → Type 0
+abbrev pub LeftEnds : Ends → Result Terms (Left Ends) → Type 0
 LeftEnds s r =
     MatchResult r (λ t. (s.held ≡ s.sizes.links) × (t.sizes ≡ s.sizes) × (t.held ≡ 0))
-    (λ p. (s.held < s.sizes.links) × (p.0 ≡ s) × (p.1 ≡ Missing s.held))
+    (λ left. (s.held < s.sizes.links) × (left.stage ≡ s) × (left.fault ≡ Missing s.held))
 
-abbrev pub LeftTerms : Terms → Result Filled (Terms × DraftFault) → Type 0
+abbrev pub LeftTerms : Terms → Result Filled (Left Terms) → Type 0
 LeftTerms s r =
     MatchResult r (λ f. (s.held ≡ s.sizes.links) × (f.sizes ≡ s.sizes))
-    (λ p. (s.held < s.sizes.links) × (p.0 ≡ s) × (p.1 ≡ Missing s.held))
+    (λ left. (s.held < s.sizes.links) × (left.stage ≡ s) × (left.fault ≡ Missing s.held))

@@ -1,8 +1,10 @@
 ghost use Rattle.std.specs.Prelude.{◌≡◌};
 ghost use Rattle.drafts.specs.Faults.{told_of};
 
+use nets::Notice;
+
 // Why a draft refuses an entry, or refuses to move on.
-#[derive(Clone, Copy)]
+#[derive(Clone, Copy, Debug, PartialEq, Eq)]
 pub enum DraftFault {
     // The entry's number of this place, counted from 1, is out of range.
     Range(u8),
@@ -16,14 +18,18 @@ pub enum DraftFault {
 
 impl DraftFault {
     // The refusal's number, and the place that it tells.
-    pub fn told(&self) -> (u8, u8)
-        ensures { result ≡ told_of self.now }
+    pub fn told(&self) -> Notice
+        ensures { result ≡ record { number = (told_of self.now).0; place = Some (told_of self.now).1 } }
     {
-        match *self {
+        let (number, place) = match *self {
             DraftFault::Range(which) => (2, which),
             DraftFault::Missing(held) => (3, held),
             DraftFault::PastSize(size) => (4, size),
             DraftFault::Capacity(link) => (5, link),
+        };
+        Notice {
+            number,
+            place: Some(u64::from(place)),
         }
     }
 }

@@ -1,12 +1,59 @@
-// The numbers of a draft's entries. Each function takes a number of any size, and gives it where it lies in its range; else the draft's fault, which tells
-// which number of its entry it is.
-ghost use Rattle.std.specs.Prelude.{◌≡◌};
-ghost use Rattle.drafts.specs.Faults.{judged, placed};
+// The numbers of a draft's entries, and where each has to lie.
+ghost use Rattle.std.specs.Prelude.{◌≡◌, ◌-◌, ◌^◌, ◌<◌};
+ghost use Rattle.drafts.specs.Faults.{judged as judged_lem, placed, judged_by, range_fault, station_fault, Capped};
+ghost use Rattle.drafts.specs.Numbers.{fault_of};
 
 use crate::fault::DraftFault;
 
-fn number(which: u8, low: u64, high: u64, value: u64) -> Result<u64, DraftFault>
-    ensures { result ≡ judged which low high value }
+// Which number of which entry it is.
+#[derive(Clone, Copy, Debug, PartialEq, Eq)]
+pub enum Number {
+    // How many stations a net has, and how many links.
+    Stations,
+    Links,
+    // Ticks for one share, and for one time unit.
+    Share,
+    Unit,
+    // A duration in time units.
+    Duration,
+    // The stations that a link leads from and to, of so many.
+    From(u8),
+    To(u8),
+    // Parts that arrive on a link at a time, and parts that leave it.
+    Produced,
+    Consumed,
+    // Parts on a link at first, and parts that it has room for.
+    Stock,
+    Capacity,
+}
+
+impl Number {
+    // The value, where it is in range; else the draft's fault, which tells the number's place in its entry. The largest `u64` may stand for all above it.
+    pub fn judge(self, value: u64) -> Result<u64, DraftFault>
+        ensures judged { result ≡ judged_by (fault_of self value) value }
+        ensures capped { Capped (fault_of self) }
+    {
+        match self {
+            Number::Stations => within(1, 1, 64, value),
+            Number::Links => within(2, 0, 128, value),
+            Number::Share => within(3, 1, 1_000_000, value),
+            Number::Unit => within(4, 1, 10_000_000_000, value),
+            Number::Duration => within(1, 1, 10_000, value),
+            Number::From(stations) => below(1, stations, value),
+            Number::To(stations) => below(2, stations, value),
+            Number::Produced => within(1, 1, 1_000, value),
+            Number::Consumed => within(2, 1, 1_000, value),
+            Number::Stock => within(3, 0, 10_000, value),
+            Number::Capacity => within(4, 0, 10_000, value),
+        }
+    }
+}
+
+// From low to high.
+fn within(which: u8, low: u64, high: u64, value: u64) -> Result<u64, DraftFault>
+    requires { high < 2 ^ 64 - 1 }
+    ensures judged { result ≡ judged_lem which low high value }
+    ensures capped { Capped (range_fault which low high) }
 {
     if value < low || value > high {
         return Err(DraftFault::Range(which));
@@ -14,75 +61,13 @@ fn number(which: u8, low: u64, high: u64, value: u64) -> Result<u64, DraftFault>
     Ok(value)
 }
 
-// How many stations a net has.
-pub fn stations(value: u64) -> Result<u8, DraftFault>
-    ensures { result ≡ judged 1 1 64 value }
+// One of so many, counted from 0.
+fn below(which: u8, count: u8, value: u64) -> Result<u64, DraftFault>
+    ensures judged { result ≡ placed which count value }
+    ensures capped { Capped (station_fault which count) }
 {
-    let n = number(1, 1, 64, value)?;
-    Ok(n as u8)
-}
-
-// How many links it has.
-pub fn links(value: u64) -> Result<u8, DraftFault>
-    ensures { result ≡ judged 2 0 128 value }
-{
-    let m = number(2, 0, 128, value)?;
-    Ok(m as u8)
-}
-
-// Ticks for one share.
-pub fn share(value: u64) -> Result<u32, DraftFault>
-    ensures { result ≡ judged 3 1 1_000_000 value }
-{
-    let a = number(3, 1, 1_000_000, value)?;
-    Ok(a as u32)
-}
-
-// Ticks for one time unit.
-pub fn unit(value: u64) -> Result<u64, DraftFault>
-    ensures { result ≡ judged 4 1 10_000_000_000 value }
-{
-    number(4, 1, 10_000_000_000, value)
-}
-
-// A duration in time units.
-pub fn duration(value: u64) -> Result<u16, DraftFault>
-    ensures { result ≡ judged 1 1 10_000 value }
-{
-    let d = number(1, 1, 10_000, value)?;
-    Ok(d as u16)
-}
-
-// One of so many stations.
-pub fn station(which: u8, stations: u8, value: u64) -> Result<u8, DraftFault>
-    ensures { result ≡ placed which stations value }
-{
-    if value >= stations as u64 {
+    if value >= u64::from(count) {
         return Err(DraftFault::Range(which));
     }
-    Ok(value as u8)
-}
-
-// Parts that arrive on a link, or leave it, at a time.
-pub fn batch(which: u8, value: u64) -> Result<u16, DraftFault>
-    ensures { result ≡ judged which 1 1_000 value }
-{
-    let parts = number(which, 1, 1_000, value)?;
-    Ok(parts as u16)
-}
-
-// Parts on a link at first.
-pub fn stock(value: u64) -> Result<u16, DraftFault>
-    ensures { result ≡ judged 3 0 10_000 value }
-{
-    let u = number(3, 0, 10_000, value)?;
-    Ok(u as u16)
-}
-
-// Parts that a link has room for.
-pub fn capacity(value: u64) -> Result<u16, DraftFault>
-    ensures { result ≡ judged 4 0 10_000 value }
-{
-    let c = number(4, 0, 10_000, value)?;
-    Ok(c as u16)
+    Ok(value)
 }

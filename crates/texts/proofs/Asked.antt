@@ -5,8 +5,7 @@ use Rattle.std.proofs.lemmas.Bool.{cases_eq}
 use Rattle.std.proofs.lemmas.Bool.Decides.{nat_tests}
 use Rattle.std.specs.List.{prefix_len}
 use Rattle.drafts.specs.declared.fault.DraftFault.{DraftFault}
-use Rattle.drafts.specs.declared.fault.DraftFault.TheVariants.{Range}
-use Rattle.drafts.specs.Faults.{outside, judged, placed, range_fault, station_fault, fault_if}
+use Rattle.drafts.specs.Faults.{judged_by, Capped}
 use Rattle.forms.specs.Marks.{is_digit, digit_first, value_on, Lexed, none, led, number, number_at}
 use Rattle.forms.specs.Form as form
 use Rattle.texts.specs.declared.fault.TextFault.{TextFault}
@@ -50,43 +49,30 @@ module _ (x y : Reader) (t : List ℕ) (same : x.text.now ≡ t) (h : x.at < len
       subst (λ o. Numbered o x (Ok n) y) (sym f) (ap Ok (omega (arith, q, value)), omega (arith, p, place)))
       (cases_eq (get_or t x.at 0) 48)
 
--- a number of any size and its first 64 bits have the same fault, and one with no fault is below
-pub record Bounds (fault : ℕ → Option DraftFault) : Type 0 where
-  pub capped : (v : ℕ) → fault v ≡ fault (min v (2 ^ 64 - 1))
-  pub small : (v : ℕ) → fault v ≡ None → v + 1 < 2 ^ 64
-
-pub range_bounds : (which low high : ℕ) → high + 1 < 2 ^ 64 → Bounds (range_fault which low high)
-range_bounds which low high h =
-    record {
-      capped = λ v. ap (λ b. fault_if b (Range which)) (grind (arith, nat_tests));
-      small = λ v e. grind (arith, nat_tests);
-    }
-
-pub station_bounds : (which stations : ℕ) → stations + 1 < 2 ^ 64 → Bounds (station_fault which stations)
-station_bounds which stations h =
-    record {
-      capped = λ v. ap (λ b. fault_if b (Range which)) (grind (arith, nat_tests));
-      small = λ v e. grind (arith, nat_tests);
-    }
-
 -- what the draft answers of a number
 abbrev pub Judges : (ℕ → Option DraftFault) → ℕ → Result ℕ DraftFault → Type 0
 Judges fault n a = MatchResult a (λ v. (v ≡ n) × (fault n ≡ None)) (λ f. fault n ≡ Some f)
 
-pub judged_judges : (which low high n : ℕ) (a : Result ℕ DraftFault) → a ≡ judged which low high n → Judges (range_fault which low high) n a
-judged_judges which low high n a e = subst (Judges (range_fault which low high) n) (sym e) (by (outside low high n) refl)
+pub judged_judges : (fault : ℕ → Option DraftFault) (n : ℕ) (a : Result ℕ DraftFault) → a ≡ judged_by (fault n) n → Judges fault n a
+judged_judges fault n a e = subst (Judges fault n) (sym e) (by (fault n) refl)
   where
-    by : (b : Bool) → outside low high n ≡ b → Judges (range_fault which low high) n (cond b (Err (Range which)) (Ok n))
-    by true h = simp h
-    by false h = (refl, simp h)
-
-pub placed_judges : (which stations n : ℕ) (a : Result ℕ DraftFault) → a ≡ placed which stations n → Judges (station_fault which stations) n a
-placed_judges which stations n a e = grind (arith, nat_tests)
+    by : (o : Option DraftFault) → fault n ≡ o → Judges fault n (judged_by o n)
+    by None h = (refl, h)
+    by (Some f) h = h
 
 rest_on : (x y : Reader) (m : ℕ) → y.at ≡ x.at + m → y.text.now ≡ x.text.now → drop m (rest x) ≡ rest y
 rest_on x y m e s = drop-drop m x.at x.text.now ∙ sym (rw (e, s))
 
-module _ (x y : Reader) (fault : ℕ → Option DraftFault) (b : Bounds fault) (k : ℕ → NetForm) where
+module _ (x y : Reader) (fault : ℕ → Option DraftFault) (k : ℕ → NetForm) where
+  err_by : (d : TextFault) (o : Lexed) → Numbered o x (Err d) y → (form.numbered o (λ v. verdict (fault v)) x.at (λ v m. form.run (x.at + m) (k v) (drop m (rest x))) ≡ said d) × Worded x.text.now d
+  err_by d none e = (sym e.0, e.1)
+  err_by d led e = (sym e.0, e.1)
+  err_by d (number v m) e = let e0 = e.0 in let z : ◌≡◌ {A = ℕ} 0 1 = cc in absurd (omega arith)
+
+  pub number_err : (d : TextFault) → Numbered (number_at (rest x)) x (Err d) y → Halts x (asked fault k) d
+  number_err d e = let h = err_by d (number_at (rest x)) e in record { runs = h.0; worded = h.1 }
+
+module _ (x y : Reader) (fault : ℕ → Option DraftFault) (b : Capped fault) (k : ℕ → NetForm) where
   fine_by : (n : ℕ) (o : Lexed) → Numbered o x (Ok n) y → y.text.now ≡ x.text.now → fault n ≡ None
       → form.numbered o (λ v. verdict (fault v)) x.at (λ v m. form.run (x.at + m) (k v) (drop m (rest x))) ≡ form.run y.at (k n) (rest y)
   fine_by n none e s f = absurd e
@@ -106,7 +92,7 @@ module _ (x y : Reader) (fault : ℕ → Option DraftFault) (b : Bounds fault) (
   out_by n led e m f = absurd e
   out_by n (number v q) e m f =
       let a : min v (2 ^ 64 - 1) ≡ n = cc e.0 in
-      let g : fault v ≡ Some m = b.capped v ∙ ap fault a ∙ f in
+      let g : fault v ≡ Some m = b.same v ∙ ap fault a ∙ f in
       ap (λ z. form.judged (verdict z) x.at (form.run (x.at + q) (k v) (drop q (rest x)))) g
 
   pub number_refused : (n : ℕ) → Numbered (number_at (rest x)) x (Ok n) y → (m : DraftFault) → fault n ≡ Some m → form.run x.at (asked fault k) (rest x) ≡ form.refused m x.at
@@ -116,22 +102,14 @@ module _ (x y : Reader) (fault : ℕ → Option DraftFault) (b : Bounds fault) (
       → (d : TextFault) → said d ≡ form.refused m x.at → Worded x.text.now d → Halts x (asked fault k) d
   number_out n e m f d s w = record { runs = number_refused n e m f ∙ sym s; worded = w }
 
-  err_by : (d : TextFault) (o : Lexed) → Numbered o x (Err d) y → (form.numbered o (λ v. verdict (fault v)) x.at (λ v m. form.run (x.at + m) (k v) (drop m (rest x))) ≡ said d) × Worded x.text.now d
-  err_by d none e = (sym e.0, e.1)
-  err_by d led e = (sym e.0, e.1)
-  err_by d (number v m) e = let e0 = e.0 in let z : ◌≡◌ {A = ℕ} 0 1 = cc in absurd (omega arith)
-
-  pub number_err : (d : TextFault) → Numbered (number_at (rest x)) x (Err d) y → Halts x (asked fault k) d
-  number_err d e = let h = err_by d (number_at (rest x)) e in record { runs = h.0; worded = h.1 }
-
 -- a number that is read and judged
-pub asks_err : (x y : Reader) (fault : ℕ → Option DraftFault) → Bounds fault → (d : TextFault) → Numbered (number_at (rest x)) x (Err d) y
+pub asks_err : (x y : Reader) (fault : ℕ → Option DraftFault) (d : TextFault) → Numbered (number_at (rest x)) x (Err d) y
     → (r : Result ℕ TextFault) → (e : TextFault) × (r ≡ Err e) × (e ≡ d) → Asks x fault r y
-asks_err x y fault b d h r p =
+asks_err x y fault d h r p =
     subst (λ z. Asks x fault z y) (sym (p.1 ∙ ap Err p.2))
-    (record { reads = λ k. number_err x y fault b k d h; fine = tt; same = tt })
+    (record { reads = λ k. number_err x y fault k d h; fine = tt; same = tt })
 
-pub asks_placed : (x y : Reader) (fault : ℕ → Option DraftFault) → Bounds fault → (n : ℕ) → Numbered (number_at (rest x)) x (Ok n) y → y.text.now ≡ x.text.now
+pub asks_placed : (x y : Reader) (fault : ℕ → Option DraftFault) → Capped fault → (n : ℕ) → Numbered (number_at (rest x)) x (Ok n) y → y.text.now ≡ x.text.now
     → (a : Result ℕ DraftFault) → Judges fault n a → (r : Result ℕ TextFault) → Placed y.text.now x.at a r → Asks x fault r y
 asks_placed x y fault b n h s (Ok v) j r p =
     subst (λ z. Asks x fault z y) (sym (p ∙ ap Ok j.0)) (record { reads = λ k. number_fine x y fault b k n h s j.1; fine = j.1; same = s })

@@ -1,5 +1,8 @@
 -- Parts of a reading, one after another.
-use Rattle.std.proofs.Common.{◌≡◌, ℕ, List, drop, Ok, Err, Result, sym, ap, ◌∙◌, subst}
+use Rattle.std.proofs.Common.{◌≡◌, ℕ, List, drop, Ok, Err, Result, MatchResult, sym, ap, ◌∙◌, subst}
+use Rattle.std.specs.Result.{IsErrAnd}
+use Rattle.drafts.specs.declared.fault.DraftFault.{DraftFault}
+use Rattle.drafts.specs.declared.stage.moves.Left.{Left}
 use Rattle.forms.specs.Form.{broken, run}
 use Rattle.texts.specs.declared.fault.Word.{Word}
 use Rattle.texts.specs.declared.fault.TextFault.{TextFault}
@@ -8,7 +11,7 @@ use Rattle.texts.specs.declared.reader.Reader.{Reader}
 use Rattle.texts.specs.Lexemes.{word_of}
 use Rattle.texts.specs.Faults.{Worded}
 use Rattle.texts.specs.NetForm.{NetForm}
-use Rattle.texts.specs.Reading.{rest, Goes, Halts, Found, filled, Started}
+use Rattle.texts.specs.Reading.{rest, Goes, Halts, Found, filled, Started, Placed, Moved}
 
 -- one part, and then the next
 pub and_on : {x y z : Reader} {f g h : NetForm} → Goes x f y g → Goes y g z h → Goes x f z h
@@ -43,3 +46,15 @@ halts_form x f p w e h =
 pub goes_start : (f : NetForm) (x : Reader) (t : List ℕ) → Started x t → run 0 f t ≡ run x.at f (rest x)
 goes_start f x t s =
     ap (λ n. run n f t) (sym s.1) ∙ ap (run x.at f) (ap (λ n. drop n t) (sym s.1) ∙ ap (λ l. drop x.at l) (sym s.0))
+
+-- a stage that comes back
+pub moved_mapped : {S X : Type 0} (t : List ℕ) (p : ℕ) (n : Result X (Left S)) (a : Result X DraftFault) (r : Result X TextFault) (P : Left S → DraftFault → Type 0)
+    → ((l : Left S) (f : DraftFault) → P l f → f ≡ l.fault) → MatchResult n (λ v. a ≡ Ok v) (λ l. IsErrAnd a (P l)) → Placed t p a r → Moved t p n r
+moved_mapped t p (Ok v) a r P h m q = subst (λ z. Placed t p z r) m q
+moved_mapped t p (Err l) (Ok v) r P h m q = absurd m
+moved_mapped t p (Err l) (Err f) r P h m q = subst (λ z. Placed t p (Err z) r) (h l f m) q
+
+-- the stage that is moved to
+pub moved_on : {S X : Type 0} (t : List ℕ) (p : ℕ) (n : Result X (Left S)) (v : X) (P : X → Type 0) (Q : Left S → Type 0) → Moved t p n (Ok v) → MatchResult n P Q → P v
+moved_on t p (Ok w) v P Q m h = subst P (sym (let e : v ≡ w = cc in e)) h
+moved_on t p (Err l) v P Q m h = absurd m

@@ -1,6 +1,7 @@
 -- What a part of the reader does, as a part of the form.
 use Rattle.std.specs.Prelude.{◌≡◌, ℕ, ◌+◌, ◌-◌, ◌^◌, min, List, drop, IfOk, Some, None, Ok, Err, Option, Result, MatchResult}
 use Rattle.drafts.specs.declared.fault.DraftFault.{DraftFault}
+use Rattle.drafts.specs.declared.stage.moves.Left.{Left}
 use Rattle.drafts.specs.Entries.{capacity_fault, below_stock}
 use Rattle.forms.specs.Marks.{Lexed, none, led, number}
 use Rattle.forms.specs.Form.{done, got, broken, refused, run}
@@ -51,6 +52,11 @@ Numbered (number v n) x r y = (r ≡ Ok (min v (2 ^ 64 - 1))) × (y.at ≡ x.at 
 abbrev pub Placed : {X : Type 0} → List ℕ → ℕ → Result X DraftFault → Result X TextFault → Type 0
 Placed t p (Ok v) r = r ≡ Ok v
 Placed t p (Err f) r = MatchResult r (λ _. ⊥) (λ e. (said e ≡ refused f p) × Worded t e)
+
+-- the next stage of a draft, or else a fault of the draft at that place
+abbrev pub Moved : {S X : Type 0} → List ℕ → ℕ → Result X (Left S) → Result X TextFault → Type 0
+Moved t p (Ok v) r = Placed t p (Ok v) r
+Moved t p (Err left) r = Placed t p (Err left.fault) r
 
 -- a number of which the draft has no fault
 pub record Asks (x : Reader) (fault : ℕ → Option DraftFault) (r : Result ℕ TextFault) (y : Reader) : Type 0 where

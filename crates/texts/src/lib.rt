@@ -43,10 +43,7 @@ fn fill<'a>(text: &'a [u8], tables: &mut Tables) -> Result<Filled, TextFault<'a>
     let mut reader = Reader::new(text);
     let mut sizes = Sizes::new();
     let counts = reader.sizes(&mut sizes)?;
-    let mut durations = match sizes.next() {
-        Ok(stage) => stage,
-        Err(left) => return reader.here(left.1),
-    };
+    let mut durations = reader.moved(sizes.next())?;
     reader.line(
         b"dur",
         counts.stations,
@@ -54,20 +51,11 @@ fn fill<'a>(text: &'a [u8], tables: &mut Tables) -> Result<Filled, TextFault<'a>
         &mut durations,
         tables,
     )?;
-    let mut ends = match durations.next() {
-        Ok(stage) => stage,
-        Err(left) => return reader.here(left.1),
-    };
+    let mut ends = reader.moved(durations.next())?;
     reader.line(b"ends", counts.stations, counts.links, &mut ends, tables)?;
-    let mut terms = match ends.next() {
-        Ok(stage) => stage,
-        Err(left) => return reader.here(left.1),
-    };
+    let mut terms = reader.moved(ends.next())?;
     reader.line(b"terms", counts.stations, counts.links, &mut terms, tables)?;
-    let filled = match terms.next() {
-        Ok(filled) => filled,
-        Err(left) => return reader.here(left.1),
-    };
+    let filled = reader.moved(terms.next())?;
     reader.end()?;
     Ok(filled)
 }

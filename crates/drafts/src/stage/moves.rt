@@ -21,11 +21,12 @@ impl Sizes {
     }
 
     // The next stage, or this one back where the sizes are missing.
-    pub fn next(self) -> Result<Durations, (Sizes, DraftFault)>
+    pub fn next(self) -> Result<Durations, Left<Sizes>>
         ensures { LeftSizes self result }
     {
         if self.held < 1 {
-            return Err((self, DraftFault::Missing(0)));
+            let fault = DraftFault::Missing(0);
+            return Err(Left { stage: self, fault });
         }
         let Sizes { entry, held: _ } = self;
         Ok(Durations {
@@ -37,12 +38,13 @@ impl Sizes {
 
 impl Durations {
     // The next stage, or this one back where durations are missing.
-    pub fn next(self) -> Result<Ends, (Durations, DraftFault)>
+    pub fn next(self) -> Result<Ends, Left<Durations>>
         ensures { LeftDurations self result }
     {
         if self.held < self.sizes.stations {
             let durations = self.held;
-            return Err((self, DraftFault::Missing(durations)));
+            let fault = DraftFault::Missing(durations);
+            return Err(Left { stage: self, fault });
         }
         let Durations { sizes, held: _ } = self;
         Ok(Ends { sizes, held: 0 })
@@ -51,12 +53,13 @@ impl Durations {
 
 impl Ends {
     // The next stage, or this one back where ends are missing.
-    pub fn next(self) -> Result<Terms, (Ends, DraftFault)>
+    pub fn next(self) -> Result<Terms, Left<Ends>>
         ensures { LeftEnds self result }
     {
         if self.held < self.sizes.links {
             let ends = self.held;
-            return Err((self, DraftFault::Missing(ends)));
+            let fault = DraftFault::Missing(ends);
+            return Err(Left { stage: self, fault });
         }
         let Ends { sizes, held: _ } = self;
         Ok(Terms { sizes, held: 0 })
@@ -65,12 +68,13 @@ impl Ends {
 
 impl Terms {
     // The filled draft, or this stage back where terms are missing.
-    pub fn next(self) -> Result<Filled, (Terms, DraftFault)>
+    pub fn next(self) -> Result<Filled, Left<Terms>>
         ensures { LeftTerms self result }
     {
         if self.held < self.sizes.links {
             let terms = self.held;
-            return Err((self, DraftFault::Missing(terms)));
+            let fault = DraftFault::Missing(terms);
+            return Err(Left { stage: self, fault });
         }
         let Terms { sizes, held: _ } = self;
         Ok(Filled { sizes })
@@ -86,35 +90,18 @@ impl Filled {
     }
 }
 
-// A stage that comes back with a fault may be let go.
-impl From<(Sizes, DraftFault)> for DraftFault {
-    ghost from_gives = { λ p r. r ≡ p.1 };
-
-    fn from(p: (Sizes, DraftFault)) -> DraftFault {
-        p.1
-    }
+// A stage that is left too early comes back with the fault.
+#[derive(Drop)]
+pub struct Left<S> {
+    pub stage: S,
+    pub fault: DraftFault,
 }
 
-impl From<(Durations, DraftFault)> for DraftFault {
-    ghost from_gives = { λ p r. r ≡ p.1 };
+// The stage may be let go.
+impl<S: Drop> From<Left<S>> for DraftFault {
+    ghost from_gives = { λ left r. r ≡ left.fault };
 
-    fn from(p: (Durations, DraftFault)) -> DraftFault {
-        p.1
-    }
-}
-
-impl From<(Ends, DraftFault)> for DraftFault {
-    ghost from_gives = { λ p r. r ≡ p.1 };
-
-    fn from(p: (Ends, DraftFault)) -> DraftFault {
-        p.1
-    }
-}
-
-impl From<(Terms, DraftFault)> for DraftFault {
-    ghost from_gives = { λ p r. r ≡ p.1 };
-
-    fn from(p: (Terms, DraftFault)) -> DraftFault {
-        p.1
+    fn from(left: Left<S>) -> DraftFault {
+        left.fault
     }
 }

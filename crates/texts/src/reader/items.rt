@@ -1,15 +1,16 @@
 // The smallest parts of a text: a mark, a word, a number, the end.
-ghost use Rattle.std.specs.Prelude.{◌≡◌, ℕ, ◌+◌, ◌≤◌, length, drop, Err};
+ghost use Rattle.std.specs.Prelude.{◌≡◌, ℕ, ◌+◌, ◌≤◌, length, drop};
 ghost use Rattle.forms.specs.Marks.{number_at};
 ghost use Rattle.forms.specs.Form.{mark};
 ghost use Rattle.forms.specs.Lines.{word};
 ghost use Rattle.texts.specs.Lexemes.{lexeme_at, byte_of, word_of};
-ghost use Rattle.texts.specs.Reading.{rest, Reads, Numbered, Started, Ended, Placed};
+ghost use Rattle.texts.specs.Reading.{rest, Reads, Numbered, Started, Ended, Placed, Moved};
 
-use crate::fault::{Located, TextFault, Word};
+use crate::fault::{TextFault, Word};
 use crate::lexer::{Lexeme, Mark, is_mark, lex};
 use crate::reader::Reader;
 use drafts::fault::DraftFault;
+use drafts::stage::moves::Left;
 
 impl<'a> Reader<'a> {
     pub(crate) fn new(text: &'a [u8]) -> Reader<'a>
@@ -55,18 +56,15 @@ impl<'a> Reader<'a> {
     {
         match answer {
             Ok(value) => Ok(value),
-            Err(fault) => {
-                let word = self.word(at);
-                Err(Located { fault, word })?
-            }
+            Err(fault) => Err(TextFault::Draft(fault, self.word(at))),
         }
     }
 
-    // A fault of the draft that is found here.
-    pub(crate) fn here<T>(&self, fault: DraftFault) -> Result<T, TextFault<'a>>
-        ensures { Placed self.now.text.now self.now.at (Err fault) result }
+    // The draft's next stage, or the fault of one that is left too early, which is found here.
+    pub(crate) fn moved<S: Drop, T>(&self, next: Result<T, Left<S>>) -> Result<T, TextFault<'a>>
+        ensures { Moved self.now.text.now self.now.at next result }
     {
-        self.placed(self.at, Err(fault))
+        self.placed(self.at, next.map_err(|left| left.fault))
     }
 
     // One of the marks.

@@ -8,6 +8,7 @@ use crate::fault::TextFault;
 use crate::lexer::Mark;
 use crate::reader::Reader;
 use crate::reader::rows::Rows;
+use drafts::numbers::Number;
 use drafts::stage::{NetSizes, Sizes};
 use drafts::tables::Tables;
 use nets::Pace;
@@ -21,18 +22,21 @@ impl<'a> Reader<'a> {
     {
         self.name(b"net")?;
         self.mark(Mark::Space)?;
-        let stations = self.stations()?;
+        let stations = self.judged(Number::Stations)?;
         self.mark(Mark::Space)?;
-        let links = self.links()?;
+        let links = self.judged(Number::Links)?;
         self.mark(Mark::Space)?;
-        let share = self.share()?;
+        let share = self.judged(Number::Share)?;
         self.mark(Mark::Space)?;
         let at = self.at;
-        let unit = self.unit()?;
+        let unit = self.judged(Number::Unit)?;
         let sizes = NetSizes {
-            stations,
-            links,
-            pace: Pace { share, unit },
+            stations: stations as u8,
+            links: links as u8,
+            pace: Pace {
+                share: share as u32,
+                unit,
+            },
         };
         self.placed(at, stage.take(sizes))?;
         self.mark(Mark::Newline)?;

@@ -10,6 +10,7 @@ ghost use Rattle.texts.specs.Rows.{ReadsRow, without_durations, without_ends, wi
 use crate::fault::TextFault;
 use crate::lexer::Mark;
 use crate::reader::Reader;
+use drafts::numbers::Number;
 use drafts::stage::{Durations, Ends, Terms};
 use drafts::tables::Tables;
 use nets::{LinkEnds, LinkTerms};
@@ -70,8 +71,8 @@ impl Rows for Durations {
     ) -> Result<(), TextFault<'a>> {
         reader.mark(Mark::Space)?;
         let at = reader.at;
-        let duration = reader.duration()?;
-        reader.placed(at, self.take(tables, duration))
+        let duration = reader.judged(Number::Duration)?;
+        reader.placed(at, self.take(tables, duration as u16))
     }
 }
 
@@ -97,11 +98,15 @@ impl Rows for Ends {
         tables: &mut Tables,
     ) -> Result<(), TextFault<'a>> {
         reader.mark(Mark::Space)?;
-        let from = reader.station(1, stations)?;
+        let from = reader.judged(Number::From(stations))?;
         reader.mark(Mark::Arrow)?;
         let at = reader.at;
-        let to = reader.station(2, stations)?;
-        reader.placed(at, self.take(tables, LinkEnds { from, to }))
+        let to = reader.judged(Number::To(stations))?;
+        let ends = LinkEnds {
+            from: from as u8,
+            to: to as u8,
+        };
+        reader.placed(at, self.take(tables, ends))
     }
 }
 
@@ -127,18 +132,18 @@ impl Rows for Terms {
         tables: &mut Tables,
     ) -> Result<(), TextFault<'a>> {
         reader.mark(Mark::Space)?;
-        let produced = reader.batch(1)?;
+        let produced = reader.judged(Number::Produced)?;
         reader.mark(Mark::Colon)?;
-        let consumed = reader.batch(2)?;
+        let consumed = reader.judged(Number::Consumed)?;
         reader.mark(Mark::Colon)?;
-        let stock = reader.stock()?;
+        let stock = reader.judged(Number::Stock)?;
         reader.mark(Mark::Colon)?;
         let at = reader.at;
         let capacity = reader.capacity()?;
         let terms = LinkTerms {
-            produced,
-            consumed,
-            stock,
+            produced: produced as u16,
+            consumed: consumed as u16,
+            stock: stock as u16,
             capacity,
         };
         reader.placed(at, self.take(tables, terms))

@@ -1,5 +1,6 @@
 use Rattle.std.proofs.Common.{◌≡◌, sym, refl, ◌∙◌, arith, rules}
 use Rattle.std.proofs.lemmas.Result.{err_from_is_err_and}
+use Rattle.drafts.specs.Faults.{range_fault}
 use Rattle.texts.specs.declared.lexer.Mark.TheVariants.{Dash}
 use Rattle.texts.specs.declared.lexer.Lexeme.TheVariants.{Sign}
 use Rattle.texts.proofs.Steps.{sign_here}
@@ -29,13 +30,13 @@ pub returns-in_err-capacity : goal.returns-in_err-capacity
 returns-in_err-capacity c =
     let no : c.peek.result ≡ Sign Dash → ⊥ = search rules in
     let n = c.in_ok-value.value in
-    capacity_out c.args.self.now c.number.new.self (λ e. no (c.peek.ensures ∙ e)) n c.in_ok-value.ensures.reads c.in_ok-value.ensures.same
-    c.capacity.result (judged_judges 4 0 10_000 n c.capacity.result c.capacity.ensures) _ c.in_err-capacity.ensures
+    capacity_out c.args.self.now c.number.new.self (λ e. no (c.peek.ensures ∙ e)) c.judge.ensures.capped n c.in_ok-value.ensures.reads c.in_ok-value.ensures.same
+    c.judge.result (judged_judges (range_fault 4 0 10_000) n c.judge.result c.judge.ensures.judged) _ c.in_err-capacity.ensures
     c.from_residual-in_err-capacity.result (err_from_is_err_and c.from_residual-in_err-capacity.result c.from_residual-in_err-capacity.ensures.1)
 
 pub returns : goal.returns
 returns c =
     let no : c.peek.result ≡ Sign Dash → ⊥ = search rules in
     let n = c.in_ok-value.value in
-    capacity_read c.args.self.now c.number.new.self (λ e. no (c.peek.ensures ∙ e)) n c.in_ok-value.ensures.reads c.in_ok-value.ensures.same
-    c.capacity.result (judged_judges 4 0 10_000 n c.capacity.result c.capacity.ensures) c.in_ok-capacity.capacity c.in_ok-capacity.ensures
+    capacity_read c.args.self.now c.number.new.self (λ e. no (c.peek.ensures ∙ e)) c.judge.ensures.capped n c.in_ok-value.ensures.reads c.in_ok-value.ensures.same
+    c.judge.result (judged_judges (range_fault 4 0 10_000) n c.judge.result c.judge.ensures.judged) c.in_ok-capacity.capacity c.in_ok-capacity.ensures

@@ -46,7 +46,7 @@ pub returns-in_err-stations : goal.returns-in_err-stations
 returns-in_err-stations c =
     let r = c.from_residual-in_err-stations.result in
     record {
-      reads = λ k. leave r _ k c.stations.new.self (err_from_is_err_and r c.from_residual-in_err-stations.ensures.1)
+      reads = λ k. leave r _ k c.judged.new.self (err_from_is_err_and r c.from_residual-in_err-stations.ensures.1)
           (and_halt (c.in_ok-name.ensures (λ _. stations k)) (and_halt (c.in_ok-mark.ensures (λ _. asked (range_fault 1 1 64) (links k))) (c.in_err-stations.ensures.reads (links k))));
       kept = IfOk-from_err r _ c.from_residual-in_err-stations.ensures.0;
     }
@@ -64,7 +64,7 @@ pub returns-in_err-links : goal.returns-in_err-links
 returns-in_err-links c =
     let r = c.from_residual-in_err-links.result in
     record {
-      reads = λ k. leave r _ k c.links.new.self (err_from_is_err_and r c.from_residual-in_err-links.ensures.1)
+      reads = λ k. leave r _ k c.judged-2.new.self (err_from_is_err_and r c.from_residual-in_err-links.ensures.1)
           (and_halt (c.in_ok-name.ensures (λ _. stations k)) (and_halt (c.in_ok-mark.ensures (λ _. asked (range_fault 1 1 64) (links k))) (and_halt (c.in_ok-stations.ensures.reads (links k)) (and_halt (c.in_ok-mark-2.ensures (λ _. asked (range_fault 2 0 128) (shares k c.in_ok-stations.stations))) (c.in_err-links.ensures.reads (shares k c.in_ok-stations.stations))))));
       kept = IfOk-from_err r _ c.from_residual-in_err-links.ensures.0;
     }
@@ -82,7 +82,7 @@ pub returns-in_err-share : goal.returns-in_err-share
 returns-in_err-share c =
     let r = c.from_residual-in_err-share.result in
     record {
-      reads = λ k. leave r _ k c.share.new.self (err_from_is_err_and r c.from_residual-in_err-share.ensures.1)
+      reads = λ k. leave r _ k c.judged-3.new.self (err_from_is_err_and r c.from_residual-in_err-share.ensures.1)
           (and_halt (c.in_ok-name.ensures (λ _. stations k)) (and_halt (c.in_ok-mark.ensures (λ _. asked (range_fault 1 1 64) (links k))) (and_halt (c.in_ok-stations.ensures.reads (links k)) (and_halt (c.in_ok-mark-2.ensures (λ _. asked (range_fault 2 0 128) (shares k c.in_ok-stations.stations))) (and_halt (c.in_ok-links.ensures.reads (shares k c.in_ok-stations.stations)) (and_halt (c.in_ok-mark-3.ensures (λ _. asked (range_fault 3 1 1_000_000) (units k c.in_ok-stations.stations c.in_ok-links.links))) (c.in_err-share.ensures.reads (units k c.in_ok-stations.stations c.in_ok-links.links))))))));
       kept = IfOk-from_err r _ c.from_residual-in_err-share.ensures.0;
     }
@@ -100,7 +100,7 @@ pub returns-in_err-unit : goal.returns-in_err-unit
 returns-in_err-unit c =
     let r = c.from_residual-in_err-unit.result in
     record {
-      reads = λ k. leave r _ k c.unit.new.self (err_from_is_err_and r c.from_residual-in_err-unit.ensures.1)
+      reads = λ k. leave r _ k c.judged-4.new.self (err_from_is_err_and r c.from_residual-in_err-unit.ensures.1)
           (and_halt (c.in_ok-name.ensures (λ _. stations k)) (and_halt (c.in_ok-mark.ensures (λ _. asked (range_fault 1 1 64) (links k))) (and_halt (c.in_ok-stations.ensures.reads (links k)) (and_halt (c.in_ok-mark-2.ensures (λ _. asked (range_fault 2 0 128) (shares k c.in_ok-stations.stations))) (and_halt (c.in_ok-links.ensures.reads (shares k c.in_ok-stations.stations)) (and_halt (c.in_ok-mark-3.ensures (λ _. asked (range_fault 3 1 1_000_000) (units k c.in_ok-stations.stations c.in_ok-links.links))) (and_halt (c.in_ok-share.ensures.reads (units k c.in_ok-stations.stations c.in_ok-links.links)) (and_halt (c.in_ok-mark-4.ensures (λ _. asked (range_fault 4 1 10_000_000_000) (last k c.in_ok-stations.stations c.in_ok-links.links c.in_ok-share.share))) (c.in_err-unit.ensures.reads (last k c.in_ok-stations.stations c.in_ok-links.links c.in_ok-share.share))))))))));
       kept = IfOk-from_err r _ c.from_residual-in_err-unit.ensures.0;
     }

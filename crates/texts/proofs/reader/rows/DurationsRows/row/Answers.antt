@@ -28,7 +28,7 @@ returns-in_err-duration c =
     let r = c.from_residual-in_err-duration.result in
     let before = take c.args.self.now.held c.args.tables.now.durations in
     record {
-      reads = row_left form c.args.reader.now before r c.duration.new.self _ _ (err_from_is_err_and r c.from_residual-in_err-duration.ensures.1)
+      reads = row_left form c.args.reader.now before r c.judged.new.self _ _ (err_from_is_err_and r c.from_residual-in_err-duration.ensures.1)
           (λ n k. and_halt (c.in_ok-mark.ensures (λ _. duration_entry (next n before k))) (c.in_err-duration.ensures.reads (next n before k)));
       kept = IfOk-from_err r _ c.from_residual-in_err-duration.ensures.0;
     }
@@ -46,7 +46,7 @@ returns c =
     let kept = took.3 in
     let column : c.take.new.tables.durations ≡ set t.durations s.held d = ap (λ x. x.durations) kept in
     record {
-      reads = row_taken form c.args.reader.now before c.placed.result c.duration.new.self _ d took.0 (column_front t.durations _ s.held _ d took.2 column c.requires.wide)
+      reads = row_taken form c.args.reader.now before c.placed.result c.judged.new.self _ d took.0 (column_front t.durations _ s.held _ d took.2 column c.requires.wide)
           (λ n k. and_on (c.in_ok-mark.ensures (λ _. duration_entry (next n before k))) (c.in_ok-duration.ensures.reads (next n before k)));
       kept = made_ok c.placed.result tt _ took.0 (took.2, took.1, ap without_durations kept, column_behind t.durations _ s.held _ d took.2 column, column_long t.durations _ s.held _ d took.2 column);
     }

@@ -37,7 +37,7 @@ returns-in_err-from c =
     let m = c.args.stations in
     let form : ℕ → (LinkEnds → NetForm) → NetForm = λ i. ends_entry m in
     record {
-      reads = row_left form c.args.reader.now before r c.station.new.self _ _ (err_from_is_err_and r c.from_residual-in_err-from.ensures.1)
+      reads = row_left form c.args.reader.now before r c.judged.new.self _ _ (err_from_is_err_and r c.from_residual-in_err-from.ensures.1)
           (λ n k. and_halt (c.in_ok-mark.ensures (λ _. ends_entry m (next m n before k))) (c.in_err-from.ensures.reads (λ i. mark 62 (second m (next m n before k) i))));
       kept = IfOk-from_err r _ c.from_residual-in_err-from.ensures.0;
     }
@@ -61,7 +61,7 @@ returns-in_err-to c =
     let m = c.args.stations in
     let form : ℕ → (LinkEnds → NetForm) → NetForm = λ i. ends_entry m in
     record {
-      reads = row_left form c.args.reader.now before r c.station-2.new.self _ _ (err_from_is_err_and r c.from_residual-in_err-to.ensures.1)
+      reads = row_left form c.args.reader.now before r c.judged-2.new.self _ _ (err_from_is_err_and r c.from_residual-in_err-to.ensures.1)
           (λ n k. and_halt (c.in_ok-mark.ensures (λ _. ends_entry m (next m n before k))) (and_halt (c.in_ok-from.ensures.reads (λ i. mark 62 (second m (next m n before k) i))) (and_halt (c.in_ok-mark-2.ensures (λ _. second m (next m n before k) c.in_ok-from.from)) (c.in_err-to.ensures.reads (λ j. next m n before k (record { from = c.in_ok-from.from; to = j }))))));
       kept = IfOk-from_err r _ c.from_residual-in_err-to.ensures.0;
     }
@@ -81,7 +81,7 @@ returns c =
     let took = took_ends s c.take.new.self t c.take.new.tables e c.take.result c.placed.result _ _ c.take.ensures c.placed.ensures c.requires.space fine in
     let column : c.take.new.tables.ends ≡ set t.ends s.held e = ap (λ x. x.ends) took.3 in
     record {
-      reads = row_taken form c.args.reader.now before c.placed.result c.station-2.new.self _ e took.0 (column_front t.ends _ s.held _ e took.2 column c.requires.wide)
+      reads = row_taken form c.args.reader.now before c.placed.result c.judged-2.new.self _ e took.0 (column_front t.ends _ s.held _ e took.2 column c.requires.wide)
           (λ n k. and_on (c.in_ok-mark.ensures (λ _. ends_entry m (next m n before k))) (and_on (c.in_ok-from.ensures.reads (λ i. mark 62 (second m (next m n before k) i))) (and_on (c.in_ok-mark-2.ensures (λ _. second m (next m n before k) c.in_ok-from.from)) (c.in_ok-to.ensures.reads (λ j. next m n before k (record { from = c.in_ok-from.from; to = j }))))));
       kept = made_ok c.placed.result tt _ took.0
           (took.2, took.1, ap without_ends took.3, column_behind t.ends _ s.held _ e took.2 column, column_long t.ends _ s.held _ e took.2 column);

@@ -51,7 +51,7 @@ returns-in_err-produced c =
     let before = take c.args.self.now.held c.args.tables.now.terms in
     let i = length before in
     record {
-      reads = row_left form c.args.reader.now before r c.batch.new.self _ _ (err_from_is_err_and r c.from_residual-in_err-produced.ensures.1)
+      reads = row_left form c.args.reader.now before r c.judged.new.self _ _ (err_from_is_err_and r c.from_residual-in_err-produced.ensures.1)
           (λ n k. and_halt (c.in_ok-mark.ensures (λ _. terms_entry i (next n before k))) (c.in_err-produced.ensures.reads (λ w. mark 58 (consumeds i (next n before k) w))));
       kept = IfOk-from_err r _ c.from_residual-in_err-produced.ensures.0;
     }
@@ -73,7 +73,7 @@ returns-in_err-consumed c =
     let before = take c.args.self.now.held c.args.tables.now.terms in
     let i = length before in
     record {
-      reads = row_left form c.args.reader.now before r c.batch-2.new.self _ _ (err_from_is_err_and r c.from_residual-in_err-consumed.ensures.1)
+      reads = row_left form c.args.reader.now before r c.judged-2.new.self _ _ (err_from_is_err_and r c.from_residual-in_err-consumed.ensures.1)
           (λ n k. and_halt (c.in_ok-mark.ensures (λ _. terms_entry i (next n before k))) (and_halt (c.in_ok-produced.ensures.reads (λ w. mark 58 (consumeds i (next n before k) w))) (and_halt (c.in_ok-mark-2.ensures (λ _. consumeds i (next n before k) c.in_ok-produced.produced)) (c.in_err-consumed.ensures.reads (λ v. mark 58 (stocks i (next n before k) c.in_ok-produced.produced v))))));
       kept = IfOk-from_err r _ c.from_residual-in_err-consumed.ensures.0;
     }
@@ -95,7 +95,7 @@ returns-in_err-stock c =
     let before = take c.args.self.now.held c.args.tables.now.terms in
     let i = length before in
     record {
-      reads = row_left form c.args.reader.now before r c.stock.new.self _ _ (err_from_is_err_and r c.from_residual-in_err-stock.ensures.1)
+      reads = row_left form c.args.reader.now before r c.judged-3.new.self _ _ (err_from_is_err_and r c.from_residual-in_err-stock.ensures.1)
           (λ n k. and_halt (c.in_ok-mark.ensures (λ _. terms_entry i (next n before k))) (and_halt (c.in_ok-produced.ensures.reads (λ w. mark 58 (consumeds i (next n before k) w))) (and_halt (c.in_ok-mark-2.ensures (λ _. consumeds i (next n before k) c.in_ok-produced.produced)) (and_halt (c.in_ok-consumed.ensures.reads (λ v. mark 58 (stocks i (next n before k) c.in_ok-produced.produced v))) (and_halt (c.in_ok-mark-3.ensures (λ _. stocks i (next n before k) c.in_ok-produced.produced c.in_ok-consumed.consumed)) (c.in_err-stock.ensures.reads (λ u. mark 58 (capacities i (next n before k) c.in_ok-produced.produced c.in_ok-consumed.consumed u))))))));
       kept = IfOk-from_err r _ c.from_residual-in_err-stock.ensures.0;
     }
