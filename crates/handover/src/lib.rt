@@ -6,60 +6,44 @@ ghost use Rattle.handover.specs.Gcd.{gcd};
 ghost use Rattle.handover.specs.Law.{Counts, HandOverLaw, GcdIs, BezoutHolds, Rates, Timetable, FirstDraw, WholeTicks};
 
 // `count` counts: the q-th instant has come exactly when q is at most the count.
-pub fn counts_holds() -> u8
+pub fn counts_holds()
     ensures { Counts }
-{
-    0
-}
+{}
 
 // `gcd` divides both numbers, and every common divisor divides it.
-pub fn gcd_is_holds() -> u8
+pub fn gcd_is_holds()
     ensures { GcdIs }
-{
-    0
-}
+{}
 
 // The gcd is the difference of two multiples.
-pub fn bezout_holds() -> u8
+pub fn bezout_holds()
     ensures { BezoutHolds }
-{
-    0
-}
+{}
 
 // The supply covers the draws at every instant exactly when the first draw is late enough.
-pub fn hand_over_law_holds() -> u8
+pub fn hand_over_law_holds()
     ensures { HandOverLaw }
-{
-    0
-}
+{}
 
 // Equal rates fix the periods up to their gcd.
-pub fn rates_hold() -> u8
+pub fn rates_hold()
     ensures { Rates }
-{
-    0
-}
+{}
 
 // The law over rates, at every scale.
-pub fn timetable_holds() -> u8
+pub fn timetable_holds()
     ensures { Timetable }
-{
-    0
-}
+{}
 
 // The earliest first draw.
-pub fn first_draw_holds() -> u8
+pub fn first_draw_holds()
     ensures { FirstDraw }
-{
-    0
-}
+{}
 
 // A finer scale alone changes nothing.
-pub fn whole_ticks_hold() -> u8
+pub fn whole_ticks_hold()
     ensures { WholeTicks }
-{
-    0
-}
+{}
 
 // The greatest common divisor, by Euclid's division.
 pub fn common_divisor(a: u64, b: u64) -> u64

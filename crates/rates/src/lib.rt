@@ -207,22 +207,16 @@ pub fn rate(checked: &CheckedNet) -> Result<SoundNet, RateFault>
 }
 
 // A joined net has at most one list of rates.
-pub fn rates_one() -> u8
+pub fn rates_one()
     ensures { RatesOne }
-{
-    0
-}
+{}
 
 // The net settles which station is told as cut off, and a joined net has none.
-pub fn cut_off_one() -> u8
+pub fn cut_off_one()
     ensures { CutOffOne }
-{
-    0
-}
+{}
 
 // Worked examples of the definitions.
-pub fn worked() -> u8
+pub fn worked()
     ensures { Worked }
-{
-    0
-}
+{}
