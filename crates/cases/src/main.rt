@@ -6,18 +6,46 @@
 
 ghost use Rattle.std.specs.Prelude.{◌<◌};
 
-use anyhow::anyhow;
+use anyhow::{Result, anyhow};
 use boards::board::Board;
 use boards::text::LoadFault;
 use drafts::fault::DraftFault;
 use drafts::stage::{Durations, NetSizes, Sizes};
 use drafts::tables::Tables;
-use nets::{CircuitStep, Pace, Step};
+use nets::{CircuitStep, Notice, Pace, Step};
 use offers::survey::survey;
 use plans::plan;
-use std::alloc::AllocError;
-use std::io::{BufRead, BufReader, Write};
+use std::alloc::{AllocError, Global};
+use std::io::{BufRead, BufReader};
 use texts::read;
+
+// What a line asks for.
+#[derive(Clone, Copy)]
+enum Case {
+    Plan,
+    Survey,
+    ShortList,
+    ShortBuffer,
+    Draft,
+}
+
+const CASES: [(&str, Case); 5] = [
+    ("plan ", Case::Plan),
+    ("survey ", Case::Survey),
+    ("list of 63 ", Case::ShortList),
+    ("buffer of 4095 ", Case::ShortBuffer),
+    ("draft ", Case::Draft),
+];
+
+// The case of a line, and what it is about.
+fn case_of(line: &str) -> Option<(Case, &str)> {
+    for (name, case) in CASES {
+        if let Some(rest) = line.strip_prefix(name) {
+            return Some((case, rest));
+        }
+    }
+    None
+}
 
 fn hex_digit(b: u8) -> u8
     ensures { result < 16 }
@@ -30,134 +58,91 @@ fn hex_digit(b: u8) -> u8
 }
 
 // The text that a line stands for.
-fn unescaped(line: &[u8], text: &mut Vec<u8>) -> Result<(), AllocError> {
-    let mut at = 0;
-    while at < line.len() {
-        let rest = &line[at..];
-        match rest {
-            [b'\\', b'n', ..] => {
-                text.push(b'\n')?;
-                at += 2;
+fn unescaped(alloc: Global, line: &[u8]) -> Result<Vec<u8>, AllocError> {
+    let mut text = Vec::new(alloc);
+    let mut rest = line;
+    loop {
+        let (byte, after) = match rest {
+            [b'\\', b'n', after @ ..] => (b'\n', after),
+            [b'\\', b'x', high, low, after @ ..] => {
+                (hex_digit(*high) * 16 + hex_digit(*low), after)
             }
-            [b'\\', b'x', high, low, ..] => {
-                text.push(hex_digit(*high) * 16 + hex_digit(*low))?;
-                at += 4;
-            }
-            [b'\\', b, ..] => {
-                text.push(*b)?;
-                at += 2;
-            }
-            [b, ..] => {
-                text.push(*b)?;
-                at += 1;
-            }
-            [] => break,
-        }
+            [b'\\', byte, after @ ..] => (*byte, after),
+            [byte, after @ ..] => (*byte, after),
+            [] => return Ok(text),
+        };
+        text.push(byte)?;
+        rest = after;
     }
-    Ok(())
 }
 
-// The report on one line: a comma and a space stand between its lines.
-fn one_line(report: &[u8], line: &mut Vec<u8>) -> Result<(), AllocError> {
-    for (i, b) in report.iter().enumerate() {
-        if *b != b'\n' {
-            line.push(*b)?;
-        } else if i + 1 < report.len() {
-            line.push(b',')?;
-            line.push(b' ')?;
-        }
-    }
-    Ok(())
-}
-
-fn show_plan(rt: &HostRuntime, number: u64, text: &[u8]) -> anyhow::Result<()> {
+// Prints the report on one line: a comma and a space stand between its lines.
+fn show_plan(rt: &impl Print, text: &[u8]) -> Result<()> {
     let mut report = [0u8; 4_096];
     let Ok(end) = plan(text, &mut report) else {
         return Err(anyhow!("the buffer is too short"));
     };
-    let mut line = Vec::new(rt.alloc());
-    one_line(&report[0..end], &mut line)?;
-    let mut out = rt.stdout();
-    print!(rt; "{number}: ")?;
-    out.write_all(&line)?;
+    let report = str::from_utf8(&report[..end])?;
+    for (i, line) in report.lines().enumerate() {
+        let between = if i == 0 { "" } else { ", " };
+        print!(rt; "{between}{line}")?;
+    }
     println!(rt; "")?;
     Ok(())
 }
 
-fn show_refusal(
-    rt: &HostRuntime,
-    number: u64,
-    refusal: u8,
-    place: Option<u64>,
-) -> anyhow::Result<()> {
-    match place {
-        Some(p) => println!(rt; "{number}: refused {refusal} {p}")?,
-        None => println!(rt; "{number}: refused {refusal}")?,
-    }
+fn show_notice(rt: &impl Print, notice: Notice) -> Result<()> {
+    println!(rt; "{notice}")?;
     Ok(())
 }
 
-fn show_survey(rt: &HostRuntime, number: u64, text: &[u8]) -> anyhow::Result<()> {
+fn show_survey(rt: &impl Print, text: &[u8]) -> Result<()> {
     let mut tables = Tables::new();
     let filled = match read(text, &mut tables) {
         Ok(filled) => filled,
-        Err(fault) => {
-            let (refusal, offset) = fault.told();
-            return show_refusal(rt, number, refusal, Some(offset as u64));
-        }
+        Err(fault) => return show_notice(rt, fault.told()),
     };
     let found = match survey(&filled, &tables) {
         Ok(found) => found,
-        Err(refusal) => {
-            let (refusal, place) = refusal.told();
-            return show_refusal(rt, number, refusal, place);
-        }
+        Err(refusal) => return show_notice(rt, refusal.told()),
     };
-    print!(rt; "{number}: rates")?;
-    for rate in found.rates.iter().take(found.stations as usize) {
+    print!(rt; "rates")?;
+    for rate in found
+        .net
+        .net
+        .rates
+        .iter()
+        .take(found.net.net.stations as usize)
+    {
         print!(rt; " {rate}")?;
     }
-    let share = found.fastest.share;
-    let unit = found.fastest.unit;
+    let Pace { share, unit } = found.fastest;
     println!(rt; ", fastest {share}/{unit}")?;
     Ok(())
 }
 
 // A load with a list of 63 steps.
-fn show_short_list(rt: &HostRuntime, number: u64, text: &[u8]) -> anyhow::Result<()> {
+fn show_short_list(rt: &impl Print, text: &[u8]) -> Result<()> {
     let unused = CircuitStep {
         step: Step::Own(0),
         length: 0,
     };
     let mut list = [unused; 63];
     let mut board = Board::new();
-    let Err(fault) = board.load_text(text, &mut list) else {
-        return Err(anyhow!("a short list was taken"));
-    };
-    match fault {
-        LoadFault::Text(fault) => {
-            let (refusal, offset) = fault.told();
-            show_refusal(rt, number, refusal, Some(offset as u64))
-        }
-        LoadFault::Board(refusal) => {
-            let (refusal, place) = refusal.told();
-            show_refusal(rt, number, refusal, place)
-        }
+    match board.load_text(text, &mut list) {
+        Ok(()) => Err(anyhow!("a short list was taken")),
+        Err(LoadFault::Text(fault)) => show_notice(rt, fault.told()),
+        Err(LoadFault::Board(refusal)) => show_notice(rt, refusal.told()),
     }
 }
 
 // A report into a buffer of 4,095 bytes.
-fn show_short_buffer(rt: &HostRuntime, number: u64, text: &[u8]) -> anyhow::Result<()> {
+fn show_short_buffer(rt: &impl Print, text: &[u8]) -> Result<()> {
     let mut out = [0u8; 4_095];
-    let Err(short) = plan(text, &mut out) else {
-        return Err(anyhow!("a short buffer was taken"));
-    };
-    show_refusal(rt, number, 7, Some(short.length as u64))
-}
-
-fn show_fault(rt: &HostRuntime, number: u64, fault: DraftFault) -> anyhow::Result<()> {
-    let (refusal, place) = fault.told();
-    show_refusal(rt, number, refusal, Some(place as u64))
+    match plan(text, &mut out) {
+        Ok(_) => Err(anyhow!("a short buffer was taken")),
+        Err(short) => show_notice(rt, Notice::at(7, short.length as u64)),
+    }
 }
 
 // A draft of so many stations that awaits durations.
@@ -168,96 +153,67 @@ fn durations_of(stations: u8) -> Option<Durations> {
         links: 0,
         pace: Pace { share: 1, unit: 1 },
     };
-    let Ok(()) = sizes.take(entry) else {
-        return None;
-    };
-    match sizes.next() {
-        Ok(durations) => Some(durations),
-        Err(_) => None,
-    }
+    sizes.take(entry).ok()?;
+    sizes.next().ok()
 }
 
 // Two stations and one duration, and then on to the next stage.
 fn missing_duration() -> Option<DraftFault> {
-    let mut tables = Tables::new();
     let mut durations = durations_of(2)?;
-    let Ok(()) = durations.take(&mut tables, 1) else {
-        return None;
-    };
-    match durations.next() {
-        Ok(_) => None,
-        Err(left) => Some(left.1),
-    }
+    durations.take(&mut Tables::new(), 1).ok()?;
+    durations.next().err().map(|left| left.fault)
 }
 
 // One station and two durations.
 fn duration_too_many() -> Option<DraftFault> {
     let mut tables = Tables::new();
     let mut durations = durations_of(1)?;
-    let Ok(()) = durations.take(&mut tables, 1) else {
-        return None;
-    };
-    match durations.take(&mut tables, 1) {
-        Ok(()) => None,
-        Err(fault) => Some(fault),
-    }
+    durations.take(&mut tables, 1).ok()?;
+    durations.take(&mut tables, 1).err()
 }
 
 // A duration of 0.
 fn no_duration() -> Option<DraftFault> {
-    let mut tables = Tables::new();
     let mut durations = durations_of(1)?;
-    match durations.take(&mut tables, 0) {
-        Ok(()) => None,
-        Err(fault) => Some(fault),
-    }
+    durations.take(&mut Tables::new(), 0).err()
 }
 
-fn show_draft(rt: &HostRuntime, number: u64, what: &str) -> anyhow::Result<()> {
+fn show_draft(rt: &impl Print, what: &str) -> Result<()> {
     let fault = match what {
         "a duration missing" => missing_duration(),
         "a duration too many" => duration_too_many(),
         _ => no_duration(),
     };
     match fault {
-        Some(fault) => show_fault(rt, number, fault),
+        Some(fault) => show_notice(rt, fault.told()),
         None => Err(anyhow!("the draft took it")),
     }
 }
 
-fn show(rt: &HostRuntime, number: u64, line: &str) -> anyhow::Result<()> {
-    let mut text = Vec::new(rt.alloc());
-    if let Some(rest) = line.strip_prefix("plan ") {
-        unescaped(rest.as_bytes(), &mut text)?;
-        return show_plan(rt, number, &text);
+fn show(rt: &impl Print, alloc: Global, line: &str) -> Result<()> {
+    let Some((case, rest)) = case_of(line) else {
+        return Err(anyhow!("a line that is no case"));
+    };
+    let text = unescaped(alloc, rest.as_bytes())?;
+    match case {
+        Case::Plan => show_plan(rt, &text),
+        Case::Survey => show_survey(rt, &text),
+        Case::ShortList => show_short_list(rt, &text),
+        Case::ShortBuffer => show_short_buffer(rt, &text),
+        Case::Draft => show_draft(rt, rest),
     }
-    if let Some(rest) = line.strip_prefix("survey ") {
-        unescaped(rest.as_bytes(), &mut text)?;
-        return show_survey(rt, number, &text);
-    }
-    if let Some(rest) = line.strip_prefix("list of 63 ") {
-        unescaped(rest.as_bytes(), &mut text)?;
-        return show_short_list(rt, number, &text);
-    }
-    if let Some(rest) = line.strip_prefix("buffer of 4095 ") {
-        unescaped(rest.as_bytes(), &mut text)?;
-        return show_short_buffer(rt, number, &text);
-    }
-    if let Some(what) = line.strip_prefix("draft ") {
-        return show_draft(rt, number, what);
-    }
-    Err(anyhow!("a line that is no case"))
 }
 
-fn main(rt: HostRuntime) -> anyhow::Result<()> {
+fn main(rt: HostRuntime) -> Result<()> {
     let mut number = 0u64;
     for line in BufReader::new(rt.alloc(), rt.stdin())?.lines(rt.alloc()) {
         let line = line?;
         if line.starts_with("#") {
-            rt.println(&line)?;
+            println!(rt; "{line}")?;
         } else {
             number = number.saturating_add(1);
-            show(&rt, number, &line)?;
+            print!(rt; "{number}: ")?;
+            show(&rt, rt.alloc(), &line)?;
         }
     }
     Ok(())

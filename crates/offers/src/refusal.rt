@@ -35,10 +35,7 @@ impl Refusal {
     {
         match *self {
             Refusal::ShortList(length) => Notice::at(6, length as u64),
-            Refusal::Draft(fault) => {
-                let (number, place) = fault.told();
-                Notice::at(number, place as u64)
-            }
+            Refusal::Draft(fault) => fault.told(),
             Refusal::Call(fault) => fault.told(),
             Refusal::CutOff(station) => Notice::at(10, station as u64),
             Refusal::NoRates => Notice::bare(11),

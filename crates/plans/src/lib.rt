@@ -25,8 +25,8 @@ fn report_refused(
         let steps = *list;
         return report_circuit(&Circuit { count, steps }, out);
     }
-    let (number, place) = refusal.told();
-    report_refusal(number, place, out)
+    let notice = refusal.told();
+    report_refusal(notice.number, notice.place, out)
 }
 
 // Loads a new board with a net text and writes its report, or that of the refusal: its length in bytes.
@@ -45,8 +45,8 @@ pub fn plan(text: &[u8], out: &mut [u8]) -> Result<usize, ShortBuffer>
     };
     match fault {
         LoadFault::Text(fault) => {
-            let (number, offset) = fault.told();
-            report_refusal(number, Some(offset as u64), out)
+            let notice = fault.told();
+            report_refusal(notice.number, notice.place, out)
         }
         LoadFault::Board(refusal) => report_refused(refusal, &list, out),
     }
