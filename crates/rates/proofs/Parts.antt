@@ -1,5 +1,5 @@
 -- Numbers for the stations that are reached: what balances the links is a whole multiple of them. Assumes nothing.
-use Rattle.std.proofs.Common.{◌≡◌, ℕ, ◌*◌, ◌/◌, ◌<◌, ◌≤◌, true, false, ◌⊎◌, List, map, length, take, Some, None, sym, refl, ap, ◌∙◌, subst, inl, inr, mul-le-mul_right, arith}
+use Rattle.std.proofs.Common.{◌≡◌, ℕ, ◌*◌, ◌/◌, ◌<◌, ◌≤◌, ◌⊎◌, List, map, length, take, Some, None, sym, refl, ap, ◌∙◌, subst, inl, inr, mul-le-mul_right, arith}
 use Prim.Native.Nat.{◌∣◌}
 use native.Mathlib.Nat.{eq_of_mul-eq-mul_left, eq_of_mul-eq-mul_right, mul-div_cancel', le_of_dvd, pos_of_dvd_of_pos, dvd-mul_right}
 use Rattle.std.proofs.lemmas.Bool.{cases_eq, cases_lt}
@@ -12,8 +12,8 @@ use Rattle.rules.specs.Net.{Link, Net, stations, Open}
 use Rattle.rules.specs.Ranges.{Checked}
 use Rattle.rules.specs.Rates.{Joined, Rated, with_rates, NoRates}
 use Rattle.rates.specs.declared.Lead.{Lead}
-use Rattle.rates.specs.Reaching.{number, Balance, Balances, Terms, parts, factor, end, Onward, Reached, Part}
-use Rattle.rates.proofs.Links.{terms_of, balance_of, led_reached}
+use Rattle.rates.specs.Reaching.{number, Balance, Balances, AllEven, parts, factor, end, Onward, Reached, Part}
+use Rattle.rates.proofs.Links.{Terms, terms_of, balance_of, led_reached}
 
 -- over a link with w and v, from a station whose rate is c times zi: e and m are p = zi * v and w without their gcd g
 module _ (zi v w p g m e : ℕ) (hp : 1 ≤ p) (hw : 1 ≤ w) (G : IsGcd p w g) (ep : p ≡ g * e) (ew : w ≡ g * m) where
@@ -62,7 +62,7 @@ pub risen : (x x' m : ℕ) → x' ≡ x * m → 1 ≤ m → 1 ≤ x → 1 ≤ x'
 risen x x' m e h p = omega (arith, mul-le-mul_right m p)
 
 module _ (N : Net) (z z' : List ℕ) (s : Lead) (C : Checked N) (P : Part N z) where
-  pub part_more : Onward N z (Some s) → Reached z s z' true → Part N z'
+  pub part_more : Onward N z (Some s) → Reached z s z' (Some tt) → Part N z'
   part_more (k, l, o, (way, from, to)) (long, at_end, others, most) =
       record {
         many = long ∙ P.many;
@@ -98,7 +98,7 @@ most_of N Y R i = at (cases_lt i (stations N))
 too_many : (y c a : ℕ) → y ≡ c * a → 1 ≤ c → y ≤ 10_000 → 10_000 < a → ⊥
 too_many y c a e h p q = omega (arith, mul-le-mul_right a h)
 
-pub over : (N : Net) (z z' : List ℕ) (s : Lead) → Checked N → Part N z → Onward N z (Some s) → Reached z s z' false → NoRates N
+pub over : (N : Net) (z z' : List ℕ) (s : Lead) → Checked N → Part N z → Onward N z (Some s) → Reached z s z' None → NoRates N
 over N z z' s C P (k, l, o, (way, from, to)) r Y R = at r
   where
     t : Terms s
@@ -131,8 +131,8 @@ module _ (N : Net) (z : List ℕ) (C : Checked N) (J : Joined N) (P : Part N z) 
   all_reached y h = led_reached N z O 0 y (J y h) P.begun
 
   -- where these do not balance the links, nothing does
-  pub unbalanced : (Balances N z → ⊥) → NoRates N
-  unbalanced no_balance Y R = no_balance (λ k l o. at k l o)
+  pub unbalanced : (AllEven N z → ⊥) → NoRates N
+  unbalanced uneven Y R = uneven (λ k l o. (all_reached _ (C.linked k l o).from_station, all_reached _ (C.linked k l o).to_station, at k l o))
     where
       c : ℕ
       c = (P.whole Y R.balanced).0
@@ -182,8 +182,8 @@ module _ (N : Net) (z : List ℕ) (C : Checked N) (J : Joined N) (P : Part N z) 
     pub reduced_at : d ≤ 1
     reduced_at = let p = P.whole divided divided_balances in one (number z 0) (number divided 0) p.0 P.begun (divided_at 0 C.some) (p.1 0 P.begun)
 
-  pub balanced_rates : Balances N z → Rated (with_rates N (take (stations N) z))
-  balanced_rates B =
+  pub balanced_rates : AllEven N z → Rated (with_rates N (take (stations N) z))
+  balanced_rates E =
       record {
         complete = length-take-le (stations N) z (let long = P.many in let few = C.few in omega arith);
         least = λ i h. subst (λ t. 1 ≤ t) (sym (front i h)) (all_reached i h);
@@ -192,5 +192,8 @@ module _ (N : Net) (z : List ℕ) (C : Checked N) (J : Joined N) (P : Part N z) 
         reduced = λ d D. reduced_at B d (λ i h. subst (λ t. d ∣ t) (front i h) (D i h));
       }
     where
+      B : Balances N z
+      B k l o = (E k l o).2
+
       front : (i : ℕ) → i < stations N → number (take (stations N) z) i ≡ number z i
       front i h = get_or-take (stations N) z i 0 h
