@@ -198,8 +198,7 @@ fn with_numbers(checked: &CheckedNet, numbers: &Numbers) -> SoundNet
 {
     let mut net = checked.net;
     let stations = net.stations as usize;
-    let front = &mut net.rates[0..stations];
-    front.copy_from_slice(&numbers.z[0..stations]);
+    net.rates[0..stations].copy_from_slice(&numbers.z[0..stations]);
     SoundNet { net }
 }
 

@@ -6,9 +6,6 @@ use Rattle.rates.proofs.with_numbers.Goals as goal
 pub overflow_cast-stations : goal.overflow_cast-stations
 overflow_cast-stations c = let few = (ranged _ c.args.checked.now.ranged).whole.few in search rules
 
-pub slice_bounds-front-end : goal.slice_bounds-front-end
-slice_bounds-front-end c = let few = (ranged _ c.args.checked.now.ranged).whole.few in let long = (ranged _ c.args.checked.now.ranged).whole.rated in search rules
-
 pub slice_bounds-copy_from_slice-end : goal.slice_bounds-copy_from_slice-end
 slice_bounds-copy_from_slice-end c = let few = (ranged _ c.args.checked.now.ranged).whole.few in search rules
 
