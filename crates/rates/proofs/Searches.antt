@@ -6,10 +6,13 @@ use Rattle.std.specs.Fn.{Called}
 use Rattle.std.specs.List.{All, HoldsAt, flat_map, slice_get}
 use Rattle.std.specs.Bool.{MatchBool}
 use Rattle.std.specs.Option.{option_to_list}
-use Rattle.std.specs.Iterator.Adapters.{option_iter_item, option_iter_done, option_iter_steps}
+use Rattle.std.specs.Iterator.Adapters.{flatten_source, flatten_front, flatten_back, flatten_done, flatten_steps, option_iter_item, option_iter_done, option_iter_steps}
+use Rattle.std.specs.Slice.Iter.{iter_rest}
 use Rattle.std.specs.Iterator.{Yields}
 use Rattle.std.specs.Iterator.Runs.{SomeRun, AllItemsGive, IsFirstToGive}
-use Rattle.std.proofs.lemmas.Iterator.{YieldsList, items_from_drains}
+use Rattle.std.proofs.lemmas.Iterator.{YieldsList, YieldsList-from_slice, items_from_drains}
+use Rattle.std.proofs.lemmas.Iterator.Adapters.{YieldsList-from_flatten}
+use Rattle.std.proofs.iter.Yields.{fronts}
 use Rattle.std.proofs.lemmas.Iterator.Consumers.{YieldsList-so_far, YieldsList-from_shown}
 use lib.ListN.{length-map, length-take}
 use Rattle.std.proofs.lemmas.List.{get_or-take}
@@ -42,10 +45,16 @@ one_left true c o p x t h = absurd (none-some x (sym h))
 one_left false false o p x t h = absurd (false≢true t)
 one_left false true o p x t h = ap option_to_list (sym h)
 
-pub standing : {A : Type 0} {j : _} (o : Option A) → option_iter_item j ≡ o → option_iter_done j ≡ false → YieldsList option_iter_steps (λ y. y.now) j (option_to_list o)
-standing {j = j} o e d =
+pub item_of : {A : Type 0} {j : _} (o : Option A) → option_iter_item j ≡ o → option_iter_done j ≡ false → YieldsList option_iter_steps (λ y. y.now) j (option_to_list o)
+item_of {j = j} o e d =
     subst (YieldsList option_iter_steps (λ y. y.now) j) (ap (λ b. cond b [] (option_to_list (option_iter_item j))) d ∙ ap option_to_list e)
     (YieldsList-from_shown option_iter_steps (λ y. y.now) (λ s. cond (option_iter_done s) [] (option_to_list (option_iter_item s))) (λ s t h. nothing_left _ _ h.1) (λ s x t h. one_left _ _ _ _ x h.0 h.1) j)
+
+-- the chain proof of `xs.iter().flatten()`
+pub YieldsList-standing : {A J : Type 0} {s : _} (xs : List (Option A)) (becomes : Bor (Option A) → J → Type 0) (inner : J → Option (Bor A) → J → Type 0) →
+    iter_rest (flatten_source s) ≡ xs → flatten_front s ≡ None → flatten_back s ≡ None → flatten_done s ≡ false →
+    ((x : Bor (Option A)) (j : J) → becomes x j → YieldsList inner (λ y. y.now) j (option_to_list x.now)) → YieldsList (flatten_steps fronts becomes inner) (λ y. y.now) s (flat_map option_to_list xs)
+YieldsList-standing xs becomes inner e f b d gives = YieldsList-from_flatten becomes inner (λ y. y.now) option_to_list gives (YieldsList-from_slice xs e) f b d
 
 -- what holds of each item, or of one, read through v
 module _ {A B : Type 0} (v : A → B) (P : A → Type 0) (Q : B → Type 0) (read : (x : A) → P x → Q (v x)) where
