@@ -10,7 +10,7 @@ use Rattle.rates.specs.Reaching.{number, Balance}
 use Rattle.rules.proofs.Examples as examples
 use Rattle.rates.specs.Theorems.{tie, net, two, row, ring, assembly, Worked}
 use Rattle.rates.proofs.Links.{led_reached}
-use Rattle.handover.proofs.Options.{none_some, some_same}
+use Rattle.std.proofs.lemmas.Option.{none-some, same_Some}
 
 -- P holds of each element
 abbrev Each : {A : Type 0} → (A → Type 0) → List A → Type 0
@@ -23,8 +23,8 @@ each_number P (x ∷ xs) e zero h = e.0
 each_number P (x ∷ xs) e (suc i) h = each_number P xs e.1 i (omega arith)
 
 each_link : (P : Link → Type 0) (ls : List Link) → Each P ls → (k : ℕ) (l : Link) → get_or (map Some ls) k None ≡ Some l → P l
-each_link P [] e k l o = absurd (none_some l o)
-each_link P (t ∷ ls) e zero l o = subst P (some_same t l o) e.0
+each_link P [] e k l o = absurd (none-some l o)
+each_link P (t ∷ ls) e zero l o = subst P (same_Some t l o) e.0
 each_link P (t ∷ ls) e (suc k) l o = each_link P ls e.1 k l o
 
 abbrev divisor : List ℕ → ℕ
@@ -62,7 +62,7 @@ assembly_joined (suc (suc (suc (suc (suc y))))) h = absurd (omega arith)
 two_cut : CutOff (net 2 []) 1
 two_cut = record {
   station = lit< tt;
-  apart = λ d. absurd (not-suc-le-zero (led_reached (net 2 []) (1 ∷ []) (λ k l o. absurd (none_some l o)) 0 1 d (lit≤ tt)));
+  apart = λ d. absurd (not-suc-le-zero (led_reached (net 2 []) (1 ∷ []) (λ k l o. absurd (none-some l o)) 0 1 d (lit≤ tt)));
   lowest = λ x h. stay (omega arith);
 }
 

@@ -1,14 +1,14 @@
 -- What the numbers are after a turn, and at the end. Assumes nothing.
-use Rattle.std.proofs.Common.{◌≡◌, ℕ, ◌*◌, ◌/◌, ◌<◌, ◌≤◌, true, ◌⊎◌, List, length, set, Some, None, Option, sym, ap, ◌∙◌, subst, inl, inr, arith, length-set}
-use Rattle.std.proofs.lemmas.Bool.{cases_eq, cases_lt}
-use Rattle.std.proofs.lemmas.List.{get_or_past, get_or-set_same, get_or-set_other}
-use Rattle.handover.specs.Gcd.{gcd}
+use Rattle.std.proofs.Common.{◌≡◌, ℕ, ◌<◌, ◌≤◌, ◌⊎◌, List, length, set, Some, None, Option, MatchOption, sym, ◌∙◌, subst, inl, inr, arith, length-set}
+use Rattle.std.proofs.lemmas.Bool.{cases_eq}
+use Rattle.std.proofs.lemmas.List.{get_or-set_same, get_or-set_other}
 use Rattle.rules.specs.Net.{Net, stations}
 use Rattle.rules.specs.Ranges.{Checked}
+use Rattle.rules.specs.Rates.{Joined, CutOff}
 use Rattle.rates.specs.declared.Lead.{Lead}
-use Rattle.rates.specs.Reaching.{number, Terms, missing, parts, Onward, Lowest, CutOffOr, Scaled, Reached, Led}
+use Rattle.rates.specs.Reaching.{number, missing, Onward, Lowest, Reached, Led}
 use Rattle.rates.proofs.Counting.{one_fewer}
-use Rattle.rates.proofs.Links.{ends_of, terms_of, led_reached, led_more}
+use Rattle.rates.proofs.Links.{Terms, ends_of, terms_of, led_reached, led_more}
 use Rattle.rates.proofs.Parts.{factor_pos, end_pos, risen}
 
 -- one mark more
@@ -31,37 +31,12 @@ module _ (N : Net) (z : List ℕ) (s : Lead) (C : Checked N) (L : Led N z) where
       one_fewer z (set z s.to 1) s.to (length-set z s.to 1) (λ i h. set_at z s.to 1 i (inside o) (cases_eq i s.to) (omega arith) h) (inside o) o.3.2
       (subst (λ t. 1 ≤ t) (sym (get_or-set_same z s.to 1 0 (inside o))) (omega arith))
 
-pub cut : (N : Net) (z : List ℕ) (r : Option ℕ) → Led N z → Onward N z None → Lowest (stations N) z r → CutOffOr N r
+pub cut : (N : Net) (z : List ℕ) (r : Option ℕ) → Led N z → Onward N z None → Lowest (stations N) z r → MatchOption r (Joined N) (CutOff N)
 cut N z None L O h = λ y p. L.led y (h y p)
 cut N z (Some y) L O (p, q, h) = record { station = p; apart = λ d. let m = led_reached N z O 0 y d L.begun in omega arith; lowest = λ x b. L.led x (h x b) }
 
--- all numbers are multiplied
-pub scaled : (z₀ z : List ℕ) (m k : ℕ) → length z₀ ≡ 64 → 64 ≤ k → length z ≡ 64 →
-    ((i : ℕ) → i < k → (number z i ≡ number z₀ i * m) × (number z i ≤ 10_000)) → ((i : ℕ) → k ≤ i → number z i ≡ number z₀ i) → Scaled z₀ m z true
-scaled z₀ z m k l₀ h l below past = (l ∙ sym l₀, λ i. at i (cases_lt i k))
-  where
-    at : (i : ℕ) → (i < k) ⊎ (k ≤ i) → (number z i ≡ number z₀ i * m) × (number z i ≤ 10_000)
-    at i (inl b) = below i b
-    at i (inr b) =
-        let e : number z₀ i ≡ 0 = get_or_past z₀ i 0 (omega arith) in
-        let f : number z i ≡ 0 = get_or_past z i 0 (omega arith) in
-        (omega (arith, ap (λ t. t * m) e), omega arith)
-
 -- one more station is reached
-pub reached : (z y : List ℕ) (s : Lead) (g : ℕ) → g ≡ gcd (parts z s) s.produced → s.to < length z → parts z s / g ≤ 10_000 → Scaled z (s.produced / g) y true →
-    Reached z s (set y s.to (parts z s / g)) true
-reached z y s g e h most (long, each) = (
-  length-set y s.to (parts z s / g) ∙ long,
-  get_or-set_same y s.to (parts z s / g) 0 (omega arith) ∙ ap (λ t. parts z s / t) e,
-  λ i o. get_or-set_other y s.to i (parts z s / g) 0 o ∙ (each i).0 ∙ ap (λ t. number z i * (s.produced / t)) e,
-  λ i. at i (cases_eq i s.to),
-)
-  where
-    at : (i : ℕ) → (i ≡ s.to) ⊎ (i ≡ s.to → ⊥) → number (set y s.to (parts z s / g)) i ≤ 10_000
-    at i (inl o) = subst (λ t. number (set y s.to (parts z s / g)) t ≤ 10_000) (sym o) (subst (λ t. t ≤ 10_000) (sym (get_or-set_same y s.to (parts z s / g) 0 (omega arith))) most)
-    at i (inr o) = subst (λ t. t ≤ 10_000) (sym (get_or-set_other y s.to i (parts z s / g) 0 o)) (each i).1
-
-pub reached_fewer : (N : Net) (z z' : List ℕ) (s : Lead) → Checked N → length z ≡ 64 → Onward N z (Some s) → Reached z s z' true → missing z' < missing z
+pub reached_fewer : (N : Net) (z z' : List ℕ) (s : Lead) → Checked N → length z ≡ 64 → Onward N z (Some s) → Reached z s z' (Some tt) → missing z' < missing z
 reached_fewer N z z' s C m (k, l, o, (way, from, to)) (long, at_end, others, most) =
     one_fewer z z' s.to long (λ i h. up i h (cases_eq i s.to)) (let e = (ends_of N k l o s C way).1 in let few = C.few in omega arith) to new
   where

@@ -1,11 +1,23 @@
 -- Links as they are followed, and what they lead to. Assumes nothing.
-use Rattle.std.proofs.Common.{◌≡◌, ℕ, ◌*◌, ◌<◌, ◌≤◌, ◌⊎◌, List, length, Some, None, sym, ap, subst, inl, inr, arith}
+use Rattle.std.proofs.Common.{◌≡◌, ℕ, ◌*◌, ◌/◌, ◌<◌, ◌≤◌, ◌⊎◌, List, length, Some, None, sym, ap, subst, inl, inr, arith}
 use Rattle.std.proofs.lemmas.Bool.{cases_eq}
+use Rattle.handover.specs.Gcd.{gcd}
+use Rattle.handover.proofs.Positive.{left_pos}
+use Rattle.handover.proofs.Rates.{whole_right}
 use Rattle.rules.specs.Net.{Link, Net, stations, Open}
 use Rattle.rules.specs.Ranges.{Checked}
 use Rattle.rules.specs.Rates.{Joins, Leads, stay, on}
 use Rattle.rates.specs.declared.Lead.{Lead}
-use Rattle.rates.specs.Reaching.{number, Balances, Follows, Terms, Alike, Onward, Led}
+use Rattle.rates.specs.Reaching.{number, Balances, Follows, Alike, Onward, Led}
+
+-- a gcd with a number that is not 0 is not 0
+pub gcd_pos_right : (a b : ℕ) → 1 ≤ b → 1 ≤ gcd a b
+gcd_pos_right a b h = left_pos (gcd a b) (b / gcd a b) (omega (arith, whole_right a b))
+
+-- at least 1 part either way
+pub record Terms (s : Lead) : Type 0 where
+  pub gives : 1 ≤ s.produced
+  pub takes : 1 ≤ s.consumed
 
 -- an open link, one way or the other
 module _ (N : Net) (k : ℕ) (l : Link) (o : Open N k l) (s : Lead) where
@@ -14,8 +26,8 @@ module _ (N : Net) (k : ℕ) (l : Link) (o : Open N k l) (s : Lead) where
   ends_of C (inr e) = let K = C.linked k l o in subst (λ t. (t.from < stations N) × (t.to < stations N)) (sym e) (K.to_station, K.from_station)
 
   pub terms_of : Checked N → Follows s l → Terms s
-  terms_of C (inl e) = let K = C.linked k l o in subst Terms (sym e) (record { gives = K.gives; gives_most = K.arrive; takes = K.takes; takes_most = K.leave })
-  terms_of C (inr e) = let K = C.linked k l o in subst Terms (sym e) (record { gives = K.takes; gives_most = K.leave; takes = K.gives; takes_most = K.arrive })
+  terms_of C (inl e) = let K = C.linked k l o in subst Terms (sym e) (record { gives = K.gives; takes = K.takes })
+  terms_of C (inr e) = let K = C.linked k l o in subst Terms (sym e) (record { gives = K.takes; takes = K.gives })
 
   pub balance_of : (Y : List ℕ) → Balances N Y → Follows s l → number Y s.from * s.consumed ≡ number Y s.to * s.produced
   balance_of Y B (inl e) = subst (λ t. number Y t.from * t.consumed ≡ number Y t.to * t.produced) (sym e) (B k l o)
@@ -29,8 +41,8 @@ module _ (N : Net) (C : Checked N) (z : List ℕ) (s : Lead) where
   pub lead_in : Onward N z (Some s) → (s.from < 64) × (s.to < 64)
   lead_in (k, l, o, (way, from, to)) = let e = ends_of N k l o s C way in let few = C.few in (omega (arith, e.0), omega (arith, e.1))
 
-  pub lead_terms : Onward N z (Some s) → Terms s
-  lead_terms (k, l, o, (way, from, to)) = terms_of N k l o s C way
+  pub lead_gives : Onward N z (Some s) → 1 ≤ s.produced
+  lead_gives (k, l, o, (way, from, to)) = (terms_of N k l o s C way).gives
 
 -- where no link leads on, links lead only to stations that are reached
 alike_right : (a b : ℕ) → Alike a b → 1 ≤ a → 1 ≤ b

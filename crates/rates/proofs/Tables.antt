@@ -1,58 +1,63 @@
 -- A net's tables and the rules' words. Assumes nothing.
-use Rattle.std.proofs.Common.{◌≡◌, ℕ, ◌+◌, ◌-◌, ◌<◌, ◌≤◌, List, ◌++◌, length, get_or, take, drop, Some, None, sym, refl, ap, ◌∙◌, subst, inl, inr, arith}
-use lib.ListN.{length-map, get_or-map}
+use Rattle.std.proofs.Common.{◌≡◌, ℕ, ◌-◌, ◌<◌, List, ◌++◌, length, get_or, take, drop, Some, None, Option, Bool, true, false, ◌↔◌, IsTrue, MatchOption, MatchBool, sym, refl, ap, ◌∙◌, subst, arith}
+use lib.ListN.{get_or-map}
 use borrow.Rule.Slice.PartMut.{post_of}
-use Rattle.std.proofs.lemmas.Bool.{cases_lt}
+use Rattle.std.specs.List.{All, AllWithin, HoldsAt, flat_map}
+use Rattle.std.specs.Option.{option_to_list}
+use Rattle.std.proofs.lemmas.Option.{none-some, same_Some}
+use Rattle.std.proofs.lemmas.Bool.{false≢true}
+use Rattle.std.proofs.lemmas.List.Elements.{All-from_all_within}
 use Rattle.std.proofs.lemmas.List.{length-take-le, length-append, length-drop, take_at, drop_at}
 use Rattle.rules.specs.Net as rules
 use Rattle.rules.specs.Net.{stations, Open}
 use Rattle.rules.specs.Ranges.{Checked}
 use Rattle.rules.specs.Rates.{Rated, with_rates}
 use Rattle.rules.proofs.Soundness.{sound, in_range}
-use Rattle.rules.proofs.Tested.{open_below}
 use Rattle.nets.specs.declared.Link.{Link}
-use Rattle.handover.proofs.Options.{none_some, some_same}
 use Rattle.nets.specs.declared.Net.{Net}
 use Rattle.nets.specs.Views.{of_link, of_slot, of_net, Whole, Ranged, Good}
+use Rattle.rates.specs.declared.Lead.{Lead}
+use Rattle.rates.specs.Reaching.{Even, AllEven, OnwardBy, Onward}
 use Rattle.rates.specs.Answer.{with_table, Replaced}
+use Rattle.rates.proofs.Searches.{place_of, of_place}
 
 pub stations_of : (M : Net) → Whole M → stations (of_net M) ≡ M.stations
 stations_of M W = length-take-le M.stations M.durations (omega (arith, W.few, W.long))
 
--- what stands under a number is what is open there
-module _ (M : Net) (k : ℕ) where
-  pub open_here : (l : Link) → get_or M.links k None ≡ Some l → Open (of_net M) k (of_link l)
-  open_here l e = get_or-map of_slot M.links k None ∙ ap of_slot e
+-- a link that is open stands under its number, and is a link of the program
+slot_of : (o : Option Link) (t : rules.Link) → of_slot o ≡ Some t → (l : Link) × (o ≡ Some l) × (of_link l ≡ t)
+slot_of None t e = absurd (none-some t e)
+slot_of (Some l) t e = (l, refl, same_Some (of_link l) t e)
 
-  pub open_is : (l : Link) (t : rules.Link) → get_or M.links k None ≡ Some l → Open (of_net M) k t → of_link l ≡ t
-  open_is l t e o = some_same (of_link l) t (sym (open_here l e) ∙ o)
+-- what holds of all links that stand in the table, or of one of them, holds of all that are open, or of one
+module _ (M : Net) (P : rules.Link → Type 0) where
+  abbrev links : List Link
+  links = flat_map option_to_list M.links
 
-  pub open_not : (t : rules.Link) → get_or M.links k None ≡ None → Open (of_net M) k t → ⊥
-  open_not t e o = none_some t (sym (get_or-map of_slot M.links k None ∙ ap of_slot e) ∙ o)
+  pub all_open : All (λ l. P (of_link l)) links → (k : ℕ) (t : rules.Link) → Open (of_net M) k t → P t
+  all_open h k t o =
+      let s = slot_of (get_or M.links k None) t (sym (get_or-map of_slot M.links k None) ∙ o) in
+      let r = of_place M.links k s.0 s.1 in
+      subst P s.2 (subst (λ l. P (of_link l)) (r.2 s.0) (h r.0 s.0 r.1))
 
-  -- its ends lie in the tables
-  pub ends_in : Ranged M → (l : Link) → get_or M.links k None ≡ Some l → (l.ends.from < 64) × (l.ends.to < 64)
-  ends_in R l e =
-      let K = R.checked.linked k (of_link l) (open_here l e) in
-      let few = R.checked.few in
-      (omega (arith, K.from_station), omega (arith, K.to_station))
+  pub all_standing : ((k : ℕ) (t : rules.Link) → Open (of_net M) k t → P t) → All (λ l. P (of_link l)) links
+  all_standing h k d i =
+      let r = place_of M.links k i in
+      subst (λ l. P (of_link l)) (sym (r.3 d)) (h r.0 (of_link r.1) (get_or-map of_slot M.links r.0 None ∙ ap of_slot r.2))
 
--- what holds of every open link, looked for under one number after the other
-module _ (M : Net) (P : rules.Link → Type 0) (k : ℕ) (before : (i : ℕ) (t : rules.Link) → i < k → Open (of_net M) i t → P t) where
-  pub scan_link : (l : Link) → get_or M.links k None ≡ Some l → P (of_link l) → (i : ℕ) (t : rules.Link) → i < k + 1 → Open (of_net M) i t → P t
-  scan_link l e p i t h o = elim (cases_lt i k) [
-    | inl b ↦ before i t b o
-    | inr b ↦ (let q : i ≡ k = omega arith in subst P (open_is M k l t e (subst (λ j. Open (of_net M) j t) q o)) p)
-  ]
+  pub some_open : (k : ℕ) → k < length links → HoldsAt (λ l. P (of_link l)) links k → (j : ℕ) × (t : rules.Link) × Open (of_net M) j t × P t
+  some_open k i h =
+      let r = place_of M.links k i in
+      (r.0, of_link r.1, get_or-map of_slot M.links r.0 None ∙ ap of_slot r.2, subst (λ l. P (of_link l)) (r.3 r.1) (h r.1))
 
-  pub scan_none : get_or M.links k None ≡ None → (i : ℕ) (t : rules.Link) → i < k + 1 → Open (of_net M) i t → P t
-  scan_none e i t h o = elim (cases_lt i k) [
-    | inl b ↦ before i t b o
-    | inr b ↦ (let q : i ≡ k = omega arith in absurd (open_not M k t e (subst (λ j. Open (of_net M) j t) q o)))
-  ]
+-- what a search through the links found
+pub onward_found : (M : Net) (z : List ℕ) (r : Option Lead) → MatchOption r (All (λ l. OnwardBy (of_link l) z None) (flat_map option_to_list M.links)) (λ s. (k : ℕ) × (k < length (flat_map option_to_list M.links)) × HoldsAt (λ l. OnwardBy (of_link l) z (Some s)) (flat_map option_to_list M.links) k) → Onward (of_net M) z r
+onward_found M z None h = all_open M (λ t. OnwardBy t z None) h
+onward_found M z (Some s) (k, i, h) = some_open M (λ t. OnwardBy t z (Some s)) k i h
 
-  pub scan_all : Whole M → 128 ≤ k → (i : ℕ) (t : rules.Link) → Open (of_net M) i t → P t
-  scan_all W h i t o = before i t (omega (arith, open_below (of_net M) i t o, length-map M.links of_slot, W.numbered)) o
+pub even_found : (M : Net) (z : List ℕ) (r : Bool) → MatchBool r (AllWithin (λ l. Even (of_link l) z) (flat_map option_to_list M.links) 0 (length (flat_map option_to_list M.links))) ((k : ℕ) × (k < length (flat_map option_to_list M.links)) × HoldsAt (λ l. Even (of_link l) z → ⊥) (flat_map option_to_list M.links) k) → IsTrue r ↔ AllEven (of_net M) z
+even_found M z true h = (λ t. all_open M (λ l. Even l z) (All-from_all_within (λ l. Even (of_link l) z) (flat_map option_to_list M.links) h), λ e. refl)
+even_found M z false (k, i, h) = let s = some_open M (λ l. Even l z → ⊥) k i h in (λ e. absurd (false≢true e), λ E. absurd (s.3 (E s.0 s.1 s.2)))
 
 -- what is asked of a net before it has rates does not ask for rates
 checked_with : (N : rules.Net) (Z : List ℕ) → Checked N → Checked (with_rates N Z)

@@ -1,13 +1,18 @@
 -- How rates are found: numbers for the stations, of which a 0 stands for a station that is not reached. Assumes nothing.
-use Rattle.std.specs.Prelude.{◌≡◌, ℕ, zero, suc, ◌*◌, ◌/◌, ◌<◌, ◌≤◌, Bool, true, false, ◌⊎◌, List, [], ◌∷◌, length, take, Some, None, Option, ◌≢◌, slice_index}
+use Rattle.std.specs.Prelude.{◌≡◌, ℕ, zero, suc, ◌*◌, ◌/◌, ◌<◌, ◌≤◌, ◌⊎◌, List, [], ◌∷◌, length, Some, None, Option, ◌≢◌, slice_index}
 use Rattle.handover.specs.Gcd.{gcd}
-use Rattle.rules.specs.Net.{Link, Net, stations, Open}
-use Rattle.rules.specs.Rates.{Leads, Joined, CutOff, Rated, with_rates, NoRates}
+use Rattle.rules.specs.Net.{Link, Net, Open}
+use Rattle.rules.specs.Rates.{Leads}
 use Rattle.rates.specs.declared.Lead.{Lead}
 
 -- What stands for station i.
 abbrev pub number : List ℕ → ℕ → ℕ
 number z i = slice_index z i
+
+-- A number, where it is one of a station that is reached.
+abbrev pub if_reached : ℕ → Option ℕ
+if_reached zero = None
+if_reached (suc n) = Some (suc n)
 
 -- The numbers balance the link: as many parts arrive on it as leave it, in the long run.
 abbrev pub Balance : Link → List ℕ → Type 0
@@ -15,6 +20,13 @@ Balance l z = number z l.i * l.v ≡ number z l.j * l.w
 
 abbrev pub Balances : Net → List ℕ → Type 0
 Balances N z = (k : ℕ) (l : Link) → Open N k l → Balance l z
+
+-- Both ends are reached, and their numbers balance the link.
+abbrev pub Even : Link → List ℕ → Type 0
+Even l z = (1 ≤ number z l.i) × (1 ≤ number z l.j) × Balance l z
+
+abbrev pub AllEven : Net → List ℕ → Type 0
+AllEven N z = (k : ℕ) (l : Link) → Open N k l → Even l z
 
 -- How many stations are not reached.
 abbrev pub missing : List ℕ → ℕ
@@ -31,13 +43,6 @@ against l = record { from = l.j; to = l.i; produced = l.v; consumed = l.w }
 
 abbrev pub Follows : Lead → Link → Type 0
 Follows s l = (s ≡ along l) ⊎ (s ≡ against l)
-
--- 1 to 1,000 parts either way.
-pub record Terms (s : Lead) : Type 0 where
-  pub gives : 1 ≤ s.produced
-  pub gives_most : s.produced ≤ 1_000
-  pub takes : 1 ≤ s.consumed
-  pub takes_most : s.consumed ≤ 1_000
 
 -- Both are reached, or neither is.
 abbrev pub Alike : ℕ → ℕ → Type 0
@@ -58,15 +63,15 @@ abbrev pub Lowest : ℕ → List ℕ → Option ℕ → Type 0
 Lowest n z None = (y : ℕ) → y < n → 1 ≤ number z y
 Lowest n z (Some y) = (y < n) × (number z y ≡ 0) × ((x : ℕ) → x < y → 1 ≤ number z x)
 
--- The net is joined, or station y is the lowest cut off.
-abbrev pub CutOffOr : Net → Option ℕ → Type 0
-CutOffOr N None = Joined N
-CutOffOr N (Some y) = CutOff N y
+-- The number itself; or it passes 10,000.
+abbrev pub AsRate : ℕ → Option ℕ → Type 0
+AsRate n None = 10_000 < n
+AsRate n (Some rate) = (rate ≡ n) × (n ≤ 10_000)
 
 -- Every number times m; or one of them passes 10,000 so.
-abbrev pub Scaled : List ℕ → ℕ → List ℕ → Bool → Type 0
-Scaled z m z' true = (length z' ≡ length z) × ((i : ℕ) → (number z' i ≡ number z i * m) × (number z' i ≤ 10_000))
-Scaled z m z' false = (i : ℕ) × (10_000 < number z i * m)
+abbrev pub Scaled : List ℕ → ℕ → List ℕ → Option (Unit {0}) → Type 0
+Scaled z m z' (Some _) = (length z' ≡ length z) × ((i : ℕ) → (number z' i ≡ number z i * m) × (number z' i ≤ 10_000))
+Scaled z m z' None = (i : ℕ) × (10_000 < number z i * m)
 
 -- To reach the station that s leads to, all numbers are multiplied by the factor, and the end is the number there.
 abbrev pub parts : List ℕ → Lead → ℕ
@@ -78,9 +83,9 @@ factor z s = s.produced / gcd (parts z s) s.produced
 abbrev pub end : List ℕ → Lead → ℕ
 end z s = parts z s / gcd (parts z s) s.produced
 
-abbrev pub Reached : List ℕ → Lead → List ℕ → Bool → Type 0
-Reached z s z' true = (length z' ≡ length z) × (number z' s.to ≡ end z s) × ((i : ℕ) → (i ≢ s.to) → number z' i ≡ number z i * factor z s) × ((i : ℕ) → number z' i ≤ 10_000)
-Reached z s z' false = (10_000 < end z s) ⊎ ((i : ℕ) × (10_000 < number z i * factor z s))
+abbrev pub Reached : List ℕ → Lead → List ℕ → Option (Unit {0}) → Type 0
+Reached z s z' (Some _) = (length z' ≡ length z) × (number z' s.to ≡ end z s) × ((i : ℕ) → (i ≢ s.to) → number z' i ≡ number z i * factor z s) × ((i : ℕ) → number z' i ≤ 10_000)
+Reached z s z' None = (10_000 < end z s) ⊎ ((i : ℕ) × (10_000 < number z i * factor z s))
 
 -- Links lead from station 0 to every station that is reached.
 pub record Led (N : Net) (z : List ℕ) : Type 0 where
@@ -94,8 +99,3 @@ pub record Part (N : Net) (z : List ℕ) : Type 0 where
   pub begun : 1 ≤ number z 0
   pub most : (i : ℕ) → number z i ≤ 10_000
   pub whole : (Y : List ℕ) → Balances N Y → (c : ℕ) × ((i : ℕ) → 1 ≤ number z i → number Y i ≡ c * number z i)
-
--- Numbers whose front are the net's rates; none only where no numbers are.
-abbrev pub Numbers : Net → Option (List ℕ) → Type 0
-Numbers N None = NoRates N
-Numbers N (Some z) = Rated (with_rates N (take (stations N) z))

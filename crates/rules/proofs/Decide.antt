@@ -5,8 +5,9 @@ use Rattle.handover.proofs.Gcd.{gcd_is, gcd_unique}
 use Rattle.handover.proofs.Timetable.{timetable}
 use Rattle.rules.specs.Net.{Link, Net, Timetable, duration, rate, start, Open, SoundLink, Sound, Fits}
 use Rattle.rules.specs.Rules.{Keeps, period, lasts, begins, ends, begun, ended}
-use Rattle.rules.specs.Steps.{Step, forward, back, own, Has, Kept, or_else, no_link, link, worth, grain}
+use Rattle.rules.specs.Steps.{Step, forward, back, own, Has, Kept, or_else, worth, grain}
 use Rattle.rules.specs.Theorems.{StepsDecide}
+use Rattle.rules.proofs.Links.{link_is}
 use Rattle.rules.proofs.Differences.{is_pos, is_neg, is_sum, is_less, is_times, is_le}
 
 gcd_comm : (a b : ℕ) → gcd a b ≡ gcd b a
@@ -79,27 +80,24 @@ module _ (N : Net) (S : Sound N) (T : Timetable) (F : Fits N T) where
         λ k q h. apart_at (start T i) (period N T i) (lasts N T i) (q - 1) (q + 1 - 1) (omega arith) (omega (arith, b.0 k)),
       )
 
-  found : (k : ℕ) (l : Link) → Open N k l → l ≡ link N k
-  found k l e = sym (ap (or_else no_link) e)
-
   forward_step : (k : ℕ) (l : Link) → Open N k l → Forward l → Kept N T (forward k)
   unfolding Forward
-  forward_step k l e h = subst Forward (found k l e) h
+  forward_step k l e h = subst Forward (sym (link_is N k l e)) h
 
   step_forward : (k : ℕ) (l : Link) → Open N k l → Kept N T (forward k) → Forward l
   unfolding Forward
-  step_forward k l e h = subst Forward (sym (found k l e)) h
+  step_forward k l e h = subst Forward (link_is N k l e) h
 
   BackOf : Link → Type 0
   BackOf l = Back l (or_else 0 l.c)
 
   back_step : (k : ℕ) (l : Link) (c : ℕ) → Open N k l → l.c ≡ Some c → Back l c → Kept N T (back k)
   unfolding Back BackOf
-  back_step k l c e f h = subst BackOf (found k l e) (subst (Back l) (sym (ap (or_else 0) f)) h)
+  back_step k l c e f h = subst BackOf (sym (link_is N k l e)) (subst (Back l) (sym (ap (or_else 0) f)) h)
 
   step_back : (k : ℕ) (l : Link) (c : ℕ) → Open N k l → l.c ≡ Some c → Kept N T (back k) → Back l c
   unfolding Back BackOf
-  step_back k l c e f h = subst (Back l) (ap (or_else 0) f) (subst BackOf (sym (found k l e)) h)
+  step_back k l c e f h = subst (Back l) (ap (or_else 0) f) (subst BackOf (link_is N k l e) h)
 
   every_step : Keeps N T → (s : Step) → Has N s → Kept N T s
   every_step K (forward k) (l, e) = forward_step k l e ((forward_law l (S.linked k l e)).0 (K.stocked k l e))

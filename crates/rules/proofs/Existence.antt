@@ -1,9 +1,11 @@
 -- Least starts or a circuit above zero. Assumes nothing.
-use Rattle.std.proofs.Common.{◌≡◌, ℕ, zero, suc, ◌+◌, ◌*◌, ◌<◌, ◌≤◌, ◌⊎◌, List, [], ◌∷◌, map, length, get_or, ℤ, pos, negsuc, ◌+ℤ◌, ◌≤ℤ◌, ◌<ℤ◌, sym, refl, ap, ◌∙◌, subst, inl, inr, zero-le, mul-le-mul_left, arith}
+use Rattle.std.proofs.Common.{◌≡◌, ℕ, suc, ◌+◌, ◌*◌, ◌<◌, ◌≤◌, ◌⊎◌, List, [], ◌∷◌, map, length, get_or, ℤ, pos, negsuc, ◌+ℤ◌, ◌≤ℤ◌, ◌<ℤ◌, sym, refl, ap, ◌∙◌, subst, inl, inr, zero-add, zero-le, mul-le-mul_left, arith}
 use lib.IntN.{+ℤ_idr}
 use borrow.Author.Differences.{up, down, lt_out, same_in, below_in}
 use Rattle.std.proofs.lemmas.Int.{ints}
 use Rattle.std.proofs.lemmas.Bool.{cases_order}
+use Rattle.std.specs.List.{range_with_len}
+use Rattle.std.proofs.lemmas.List.FromFn.{length-map-range_with_len, get_or-map-range_with_len}
 use Rattle.rules.specs.Net.{Link, Net, stations, duration, Open, Sound, whole, at_pace_lem}
 use Rattle.rules.specs.Rules.{Least, SomePace}
 use Rattle.rules.specs.Steps.{Step, forward, back, own, Has, Kept, Chain, Circuit, CircuitAbove, PairCircuit, PairAbove, PairAtMost, or_else, no_link, link, leads_from, leads_to, ticks, shares, time, ticks_of, time_of, shares_of}
@@ -79,21 +81,6 @@ circuit_of N b =
       (let h = onto_ticks N c [] in let k = b.above in omega (arith, ints)),
     )
 
--- A list from a function
-
-abbrev tabled : (ℕ → ℕ) → ℕ → List ℕ
-tabled f zero = []
-tabled f (suc n) = f 0 ∷ tabled (λ i. f (suc i)) n
-
-tabled_length : (f : ℕ → ℕ) (n : ℕ) → length (tabled f n) ≡ n
-tabled_length f zero = refl
-tabled_length f (suc n) = ap suc (tabled_length (λ i. f (suc i)) n)
-
-tabled_at : (f : ℕ → ℕ) (n i : ℕ) → i < n → get_or (tabled f n) i 0 ≡ f i
-tabled_at f zero i h = absurd (omega arith)
-tabled_at f (suc n) zero h = refl
-tabled_at f (suc n) (suc i) h = tabled_at (λ i. f (suc i)) n i (omega arith)
-
 not_negative : (z : ℤ) → pos 0 ≤ℤ z → z ≡ pos (up z)
 not_negative (pos n) h = refl
 not_negative (negsuc n) h = absurd h.le
@@ -106,7 +93,7 @@ module _ (N : Net) (S : Sound N) where
   high = height (Has N) (leads_to N) (leads_from N) (ticks N) (all_steps N) (listed N) (stations N) (from_inside N S)
 
   starts_of : List ℕ
-  starts_of = tabled (λ i. up (high i)) (stations N)
+  starts_of = map (λ i. up (high i)) (range_with_len 0 (stations N))
 
   high_low : (x : ℕ) → high x ≡ pos (up (high x))
   unfolding high
@@ -115,7 +102,7 @@ module _ (N : Net) (S : Sound N) where
 
   start_is : (x : ℕ) → x < stations N → high x ≡ pos (get_or starts_of x 0)
   unfolding starts_of
-  start_is x h = high_low x ∙ ap pos (sym (tabled_at (λ i. up (high i)) (stations N) x h))
+  start_is x h = high_low x ∙ ap pos (sym (get_or-map-range_with_len (λ i. up (high i)) 0 (stations N) x x 0 h (zero-add x)))
 
   reached : (y : ℕ) → y < stations N → (x : ℕ) × (c : List Step) × Chain N x c y × (ticks_of N c ≡ pos (get_or starts_of y 0))
   unfolding high
@@ -126,7 +113,7 @@ module _ (N : Net) (S : Sound N) where
   least_of : ((s : Step) → Has N s → (ticks N s +ℤ high (leads_from N s)) ≤ℤ high (leads_to N s)) → Least N starts_of
   unfolding starts_of
   least_of kept =
-      let full : length starts_of ≡ stations N = tabled_length (λ i. up (high i)) (stations N) in
+      let full : length starts_of ≡ stations N = length-map-range_with_len (λ i. up (high i)) 0 (stations N) in
       let steps : (s : Step) → Has N s → Kept N (whole starts_of) s =
       λ s h. (bound_in 1 (get_or starts_of (leads_from N s) 0) (get_or starts_of (leads_to N s) 0) (ticks N s)).1
       (step_in (ticks N s) _ _ _ _ (kept s h) (start_is (leads_from N s) (from_inside N S s h)) (start_is (leads_to N s) (to_inside N S s h))) in

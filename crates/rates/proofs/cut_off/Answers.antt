@@ -9,22 +9,18 @@ use Rattle.rates.proofs.Tables.{stations_of}
 use Rattle.rates.proofs.cut_off.Goals as goal
 
 pub loop-lead-init : goal.loop-lead-init
-loop-lead-init c = subst (Led (of_net c.args.checked.now.net)) (sym c.first_number-z.ensures) (led_first (of_net c.args.checked.now.net))
+loop-lead-init c = subst (Led (of_net c.args.checked.now.net)) (sym c.first-numbers.ensures) (led_first (of_net c.args.checked.now.net))
 
-pub bounds-z-lead : goal.bounds-z-lead
-bounds-z-lead c = (lead_in (of_net c.args.checked.now.net) (ranged _ c.args.checked.now.ranged).checked c.loop-lead.z c.in-Some.lead c.in-Some.ensures).1
+pub bounds-numbers-lead : goal.bounds-numbers-lead
+bounds-numbers-lead c = (lead_in (of_net c.args.checked.now.net) (ranged _ c.args.checked.now.ranged).checked c.loop-lead.numbers.z c.in-Some.lead c.in-Some.ensures).1
 
 pub loop-lead-smaller : goal.loop-lead-smaller
-loop-lead-smaller c = marked_fewer (of_net c.args.checked.now.net) c.loop-lead.z c.in-Some.lead (ranged _ c.args.checked.now.ranged).checked c.loop-lead.invariant c.in-Some.ensures
+loop-lead-smaller c = marked_fewer (of_net c.args.checked.now.net) c.loop-lead.numbers.z c.in-Some.lead (ranged _ c.args.checked.now.ranged).checked c.loop-lead.invariant c.in-Some.ensures
 
 pub loop-lead-preserved : goal.loop-lead-preserved
-loop-lead-preserved c = marked_led (of_net c.args.checked.now.net) c.loop-lead.z c.in-Some.lead (ranged _ c.args.checked.now.ranged).checked c.loop-lead.invariant c.in-Some.ensures
-
-pub lowest-requires : goal.lowest-requires
-lowest-requires c = (ranged _ c.args.checked.now.ranged).whole.few
+loop-lead-preserved c = marked_led (of_net c.args.checked.now.net) c.loop-lead.numbers.z c.in-Some.lead (ranged _ c.args.checked.now.ranged).checked c.loop-lead.invariant c.in-Some.ensures
 
 pub returns : goal.returns
 returns c =
-    let W = (ranged _ c.args.checked.now.ranged).whole in
-    cut (of_net c.args.checked.now.net) c.loop-lead.z c.lowest.result c.loop-lead.invariant c.in_default.ensures
-    (subst (λ n. Lowest n c.loop-lead.z c.lowest.result) (sym (stations_of _ W)) c.lowest.ensures)
+    cut (of_net c.args.checked.now.net) c.loop-lead.numbers.z c.lowest.result c.loop-lead.invariant c.in_default.ensures
+    (subst (λ n. Lowest n c.loop-lead.numbers.z c.lowest.result) (sym (stations_of _ (ranged _ c.args.checked.now.ranged).whole)) c.lowest.ensures)

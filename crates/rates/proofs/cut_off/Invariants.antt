@@ -3,7 +3,7 @@ use Rattle.rates.specs.Reaching.{missing, Led}
 use Rattle.rates.proofs.cut_off.Given as goal
 
 abbrev pub invariant-loop-lead : goal.invariant-loop-lead
-invariant-loop-lead l = Led (of_net l.checked.net) l.z
+invariant-loop-lead l = Led (of_net l.checked.net) l.numbers.z
 
 abbrev pub decreases-loop-lead : goal.decreases-loop-lead
-decreases-loop-lead l = missing l.z
+decreases-loop-lead l = missing l.numbers.z

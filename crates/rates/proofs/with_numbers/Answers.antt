@@ -1,4 +1,4 @@
-use Rattle.std.proofs.Common.{rules}
+use Rattle.std.proofs.Common.{rules, arith}
 use Rattle.nets.proofs.Alone.{ranged}
 use Rattle.rates.proofs.Tables.{replaced_by, good_by}
 use Rattle.rates.proofs.with_numbers.Goals as goal
@@ -6,14 +6,11 @@ use Rattle.rates.proofs.with_numbers.Goals as goal
 pub overflow_cast-stations : goal.overflow_cast-stations
 overflow_cast-stations c = let few = (ranged _ c.args.checked.now.ranged).whole.few in search rules
 
-pub slice_bounds-front-end : goal.slice_bounds-front-end
-slice_bounds-front-end c = let few = (ranged _ c.args.checked.now.ranged).whole.few in let long = (ranged _ c.args.checked.now.ranged).whole.rated in search rules
-
 pub slice_bounds-copy_from_slice-end : goal.slice_bounds-copy_from_slice-end
 slice_bounds-copy_from_slice-end c = let few = (ranged _ c.args.checked.now.ranged).whole.few in search rules
 
 pub invariant_of-result : goal.invariant_of-result
-invariant_of-result c = record { good = ∣ good_by c.args.checked.now.net (ranged _ c.args.checked.now.ranged) c.args.z.now c.copy_from_slice.new.self c.told-z c.copy_from_slice.ensures.after c.requires ∣₁ }
+invariant_of-result c = record { good = ∣ good_by c.args.checked.now.net (ranged _ c.args.checked.now.ranged) c.args.numbers.now.z c.copy_from_slice.new.self (omega arith) c.copy_from_slice.ensures.after c.requires ∣₁ }
 
 pub returns : goal.returns
-returns c = replaced_by c.args.checked.now.net (ranged _ c.args.checked.now.ranged) c.args.z.now c.copy_from_slice.new.self c.told-z c.copy_from_slice.ensures.after c.requires
+returns c = replaced_by c.args.checked.now.net (ranged _ c.args.checked.now.ranged) c.args.numbers.now.z c.copy_from_slice.new.self (omega arith) c.copy_from_slice.ensures.after c.requires
