@@ -4,8 +4,8 @@ use Rattle.rules.specs.Net as rules
 use Rattle.nets.specs.declared.Net.{Net}
 
 -- The net of a new board: one station of duration 1 and rate 1, no link, pace 1/1.
-abbrev pub new_net_lem : Net
-new_net_lem = record {
+abbrev pub new_net : Net
+new_net = record {
   stations = 1;
   durations = slice_set (replicate 64 0) 0 1;
   rates = slice_set (replicate 64 0) 0 1;

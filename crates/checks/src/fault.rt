@@ -21,8 +21,7 @@ pub enum CallFault {
 impl CallFault {
     // The refusal's number, and the place that it tells.
     pub fn told(&self) -> Notice
-        ensures number { result.number ≡ (told_of self.now).0 }
-        ensures place { result.place ≡ Some (told_of self.now).1 }
+        ensures { result ≡ record { number = (told_of self.now).0; place = Some (told_of self.now).1 } }
     {
         match *self {
             CallFault::Range(which) => Notice::at(2, which as u64),

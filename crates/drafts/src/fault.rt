@@ -27,9 +27,6 @@ impl DraftFault {
             DraftFault::PastSize(size) => (4, size),
             DraftFault::Capacity(link) => (5, link),
         };
-        Notice {
-            number,
-            place: Some(u64::from(place)),
-        }
+        Notice::at(number, u64::from(place))
     }
 }

@@ -75,8 +75,7 @@ pub struct Notice {
 impl Notice {
     // A notice that tells a place.
     pub fn at(number: u8, place: u64) -> Notice
-        ensures number { result.number ≡ number }
-        ensures place { result.place ≡ Some place }
+        ensures { result ≡ record { number = number; place = Some place } }
     {
         Notice {
             number,
@@ -86,8 +85,7 @@ impl Notice {
 
     // One that tells none.
     pub fn bare(number: u8) -> Notice
-        ensures number { result.number ≡ number }
-        ensures place { result.place ≡ None }
+        ensures { result ≡ record { number = number; place = None } }
     {
         Notice {
             number,

@@ -30,8 +30,7 @@ pub enum Refusal {
 impl Refusal {
     // The refusal's number, and the place that it tells, if any: of a circuit the count of its steps.
     pub fn told(&self) -> Notice
-        ensures number { result.number ≡ (told_of self.now).0 }
-        ensures place { result.place ≡ (told_of self.now).1 }
+        ensures { result ≡ record { number = (told_of self.now).0; place = (told_of self.now).1 } }
     {
         match *self {
             Refusal::ShortList(length) => Notice::at(6, length as u64),

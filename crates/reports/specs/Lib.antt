@@ -1,4 +1,3 @@
-pub mod Pasted
 pub mod Bytes
 pub mod Steps
 pub mod Reported

@@ -1,7 +1,9 @@
-// Numbers in decimal digits.
-ghost use Rattle.std.specs.Prelude.{◌≡◌, ◌+◌, ◌^◌, ◌<◌, ◌≤◌, length, decimal};
+// Numbers in decimal digits. The rule of the project: how many digits a number has comes from a table of the powers of ten up to 10^18.
+// So numbers are not printed by the library here.
+ghost use Rattle.std.specs.Prelude.{◌≡◌, ◌+◌, ◌<◌, ◌≤◌, ◌++◌, length, decimal};
 ghost use Rattle.std.specs.Fmt.{signed_decimal};
-ghost use Rattle.reports.specs.Pasted.{Wrote};
+
+use crate::buffer::Report;
 
 const POWERS: [u64; 19] = [
     1,
@@ -25,23 +27,13 @@ const POWERS: [u64; 19] = [
     1_000_000_000_000_000_000,
 ];
 
-fn power(k: usize) -> u64
-    requires { k < 19 }
-    ensures { result ≡ 10 ^ k }
-{
-    POWERS[k]
-}
-
 // How many digits the number has.
 fn digit_count(n: u64) -> usize
-    ensures { result ≡ length (decimal n) }
+    ensures count { result ≡ length (decimal n) }
+    ensures least { 1 ≤ result }
+    ensures most { result ≤ 20 }
 {
-    for k in 1..19 {
-        if n < power(k) {
-            return k;
-        }
-    }
-    if n / power(18) < 10 { 19 } else { 20 }
+    1 + POWERS.partition_point(|power| *power <= n / 10)
 }
 
 // The byte of a digit.
@@ -52,42 +44,27 @@ fn digit(d: u64) -> u8
     b'0' + d as u8
 }
 
-// Writes the number at `at`, and says where it ends.
-pub(crate) fn put_number(out: &mut [u8], at: usize, n: u64) -> usize
-    requires { at + length (decimal n) ≤ length out.old }
-    ensures { Wrote out.old at (decimal n) out.new result }
-{
-    let w = digit_count(n);
-    let mut k = w;
-    let mut m = n;
-    while m >= 10 {
-        k -= 1;
-        out[at + k] = digit(m % 10);
-        m /= 10;
+impl Report {
+    pub(crate) fn push_number(&mut self, n: u64)
+        requires { length self.old + 20 ≤ 4_096 }
+        ensures bytes { self.new ≡ self.old ++ decimal n }
+        ensures bound { length self.new ≤ length self.old + 20 }
+    {
+        let tens = n / 10;
+        for power in POWERS[..digit_count(n) - 1].iter().rev() {
+            self.push(digit(tens / power % 10));
+        }
+        self.push(digit(n % 10));
     }
-    out[at] = digit(m);
-    at + w
-}
 
-// Writes the bytes at `at`, and says where they end.
-pub(crate) fn put_bytes(out: &mut [u8], at: usize, bytes: &[u8]) -> usize
-    requires { at + length bytes.now ≤ length out.old }
-    ensures { Wrote out.old at bytes.now out.new result }
-{
-    let end = at + bytes.len();
-    let part = &mut out[at..end];
-    part.copy_from_slice(bytes);
-    end
-}
-
-// Writes a signed number at `at`, and says where it ends.
-pub(crate) fn put_signed(out: &mut [u8], at: usize, z: i64) -> usize
-    requires { at + length (signed_decimal z) ≤ length out.old }
-    ensures { Wrote out.old at (signed_decimal z) out.new result }
-{
-    if z < 0 {
-        out[at] = b'-';
-        return put_number(out, at + 1, z.unsigned_abs());
+    pub(crate) fn push_signed(&mut self, z: i64)
+        requires { length self.old + 21 ≤ 4_096 }
+        ensures bytes { self.new ≡ self.old ++ signed_decimal z }
+        ensures bound { length self.new ≤ length self.old + 21 }
+    {
+        if z < 0 {
+            self.push(b'-');
+        }
+        self.push_number(z.unsigned_abs());
     }
-    put_number(out, at, z as u64)
 }

@@ -1,108 +1,104 @@
 // Lines of numbers and steps.
-ghost use Rattle.std.specs.Prelude.{◌+◌, ◌≤◌, ◌∷◌, length, decimal};
+ghost use Rattle.std.specs.Prelude.{◌≡◌, ℕ, ◌+◌, ◌*◌, ◌≤◌, List, ◌++◌, length, decimal};
 ghost use Rattle.std.specs.Fmt.{signed_decimal};
-ghost use Rattle.reports.specs.Pasted.{Wrote};
 ghost use Rattle.reports.specs.Bytes.{spaced, step_bytes, line};
 
-use crate::decimal::{put_bytes, put_number, put_signed};
+use crate::buffer::Report;
 use nets::{CircuitStep, Step};
 
-// Writes a letter and a number behind it.
-fn put_lettered(out: &mut [u8], at: usize, letter: u8, number: u8) -> usize
-    requires { at + length (letter ∷ decimal number) ≤ length out.old }
-    ensures { Wrote out.old at (letter ∷ decimal number) out.new result }
-{
-    out[at] = letter;
-    put_number(out, at + 1, number as u64)
+// What a row shows of each of its items, in at most `most` bytes.
+pub(crate) trait Column {
+    type Item;
+
+    ghost shown: { Self.Item → List ℕ };
+
+    ghost most: { ℕ };
+
+    fn push(item: &Self::Item, report: &mut Report)
+        requires { length report.old + most ≤ 4_096 }
+        ensures bytes { report.new ≡ report.old ++ shown item.now }
+        ensures bound { length report.new ≤ length report.old + most };
 }
 
-// Writes a step: its letter, and the number of its link or station.
-fn put_step(out: &mut [u8], at: usize, step: Step) -> usize
-    requires { at + length (step_bytes step) ≤ length out.old }
-    ensures { Wrote out.old at (step_bytes step) out.new result }
-{
-    match step {
-        Step::Forward(link) => put_lettered(out, at, b'f', link),
-        Step::Back(link) => put_lettered(out, at, b'b', link),
-        Step::Own(station) => put_lettered(out, at, b'o', station),
+pub(crate) struct Numbers;
+
+pub(crate) struct Steps;
+
+pub(crate) struct Lengths;
+
+impl Column for Numbers {
+    type Item = u64;
+
+    ghost shown = { decimal };
+
+    ghost most = { 20 };
+
+    fn push(item: &u64, report: &mut Report) {
+        report.push_number(*item);
     }
 }
 
-// Writes each number after a space, in their order.
-fn put_numbers(out: &mut [u8], at: usize, numbers: &[u64]) -> usize
-    requires { at + length (spaced decimal numbers.now) ≤ length out.old }
-    ensures { Wrote out.old at (spaced decimal numbers.now) out.new result }
-{
-    let mut end = at;
-    for n in numbers {
-        out[end] = b' ';
-        end = put_number(out, end + 1, *n);
+impl Column for Steps {
+    type Item = CircuitStep;
+
+    ghost shown = { λ s. step_bytes s.step };
+
+    ghost most = { 21 };
+
+    fn push(item: &CircuitStep, report: &mut Report) {
+        let (letter, number) = match item.step {
+            Step::Forward(link) => (b'f', link),
+            Step::Back(link) => (b'b', link),
+            Step::Own(station) => (b'o', station),
+        };
+        report.push(letter);
+        report.push_number(u64::from(number));
     }
-    end
 }
 
-// Writes each step after a space, in their order.
-fn put_steps(out: &mut [u8], at: usize, steps: &[CircuitStep]) -> usize
-    requires { at + length (spaced (λ s. step_bytes s.step) steps.now) ≤ length out.old }
-    ensures { Wrote out.old at (spaced (λ s. step_bytes s.step) steps.now) out.new result }
-{
-    let mut end = at;
-    for i in 0..steps.len() {
-        out[end] = b' ';
-        end = put_step(out, end + 1, steps[i].step);
+impl Column for Lengths {
+    type Item = CircuitStep;
+
+    ghost shown = { λ s. signed_decimal s.length };
+
+    ghost most = { 21 };
+
+    fn push(item: &CircuitStep, report: &mut Report) {
+        report.push_signed(item.length);
     }
-    end
 }
 
-// Writes the length of each step after a space, in their order.
-fn put_lengths(out: &mut [u8], at: usize, steps: &[CircuitStep]) -> usize
-    requires { at + length (spaced (λ s. signed_decimal s.length) steps.now) ≤ length out.old }
-    ensures { Wrote out.old at (spaced (λ s. signed_decimal s.length) steps.now) out.new result }
-{
-    let mut end = at;
-    for i in 0..steps.len() {
-        out[end] = b' ';
-        end = put_signed(out, end + 1, steps[i].length);
+impl Report {
+    // Appends a line of a name and a number.
+    pub(crate) fn push_count(&mut self, name: &[u8], count: u64)
+        requires { length self.old + length name.now + 21 ≤ 4_096 }
+        ensures bytes { self.new ≡ self.old ++ line name.now (decimal count) }
+        ensures bound { length self.new ≤ length self.old + length name.now + 21 }
+    {
+        self.push_all(name);
+        self.push_number(count);
+        self.push(b'\n');
     }
-    end
-}
 
-// Writes a line of a name and a number.
-pub(crate) fn count_line(out: &mut [u8], at: usize, name: &[u8], count: u64) -> usize
-    requires { at + length (line name.now (decimal count)) ≤ length out.old }
-    ensures { Wrote out.old at (line name.now (decimal count)) out.new result }
-{
-    let named = put_bytes(out, at, name);
-    let counted = put_number(out, named, count);
-    put_bytes(out, counted, b"\n")
-}
+    // Appends a line of a name and the items, each after a space.
+    pub(crate) fn push_row<C: Column>(&mut self, name: &[u8], items: &[C::Item])
+        requires { length self.old + length name.now + (C.most + 1) * length items.now + 1 ≤ 4_096 }
+        ensures bytes { self.new ≡ self.old ++ line name.now (spaced C.shown items.now) }
+        ensures bound { length self.new ≤ length self.old + length name.now + (C.most + 1) * length items.now + 1 }
+    {
+        self.push_all(name);
+        self.push_spaced::<C>(items);
+        self.push(b'\n');
+    }
 
-// Writes a line of a name and numbers.
-pub(crate) fn number_line(out: &mut [u8], at: usize, name: &[u8], numbers: &[u64]) -> usize
-    requires { at + length (line name.now (spaced decimal numbers.now)) ≤ length out.old }
-    ensures { Wrote out.old at (line name.now (spaced decimal numbers.now)) out.new result }
-{
-    let named = put_bytes(out, at, name);
-    let listed = put_numbers(out, named, numbers);
-    put_bytes(out, listed, b"\n")
-}
-
-// Writes the line of a circuit's steps.
-pub(crate) fn step_line(out: &mut [u8], at: usize, name: &[u8], steps: &[CircuitStep]) -> usize
-    requires { at + length (line name.now (spaced (λ s. step_bytes s.step) steps.now)) ≤ length out.old }
-    ensures { Wrote out.old at (line name.now (spaced (λ s. step_bytes s.step) steps.now)) out.new result }
-{
-    let named = put_bytes(out, at, name);
-    let listed = put_steps(out, named, steps);
-    put_bytes(out, listed, b"\n")
-}
-
-// Writes the line of its steps' lengths.
-pub(crate) fn length_line(out: &mut [u8], at: usize, name: &[u8], steps: &[CircuitStep]) -> usize
-    requires { at + length (line name.now (spaced (λ s. signed_decimal s.length) steps.now)) ≤ length out.old }
-    ensures { Wrote out.old at (line name.now (spaced (λ s. signed_decimal s.length) steps.now)) out.new result }
-{
-    let named = put_bytes(out, at, name);
-    let listed = put_lengths(out, named, steps);
-    put_bytes(out, listed, b"\n")
+    fn push_spaced<C: Column>(&mut self, items: &[C::Item])
+        requires { length self.old + (C.most + 1) * length items.now ≤ 4_096 }
+        ensures bytes { self.new ≡ self.old ++ spaced C.shown items.now }
+        ensures bound { length self.new ≤ length self.old + (C.most + 1) * length items.now }
+    {
+        for item in items {
+            self.push(b' ');
+            C::push(item, self);
+        }
+    }
 }

@@ -1,23 +1,22 @@
-ghost use Rattle.std.specs.Prelude.{ℕ, ◌^◌, ◌<◌, ◌≤◌, slice_index_or, unsigned_abs};
-ghost use Rattle.reports.specs.Steps.{step_number, no_step};
+ghost use Rattle.std.specs.Prelude.{◌≡◌, ◌^◌, ◌<◌, ◌≤◌, length, All, unsigned_abs};
+ghost use Rattle.reports.specs.Steps.{step_number};
 
 use nets::CircuitStep;
 
-// What a report tells of a timetable: the first `stations` starts and periods, in ticks.
-#[derive(Clone, Copy)]
-pub struct Timetable {
-    pub stations: u8,
-    pub starts: [u64; 64],
-    pub periods: [u64; 64],
-    ghost few: { stations ≤ 64 },
+// What a report tells of a timetable: the starts and the periods of the stations, in ticks.
+#[derive(Clone, Copy, Debug, PartialEq, Eq)]
+pub struct Timetable<'a> {
+    pub starts: &'a [u64],
+    pub periods: &'a [u64],
+    ghost few: { length starts.now ≤ 64 },
+    ghost same: { length periods.now ≡ length starts.now },
 }
 
-// What it tells of a net without a timetable: the first `count` steps are a circuit, with their lengths in ticks.
+// What it tells of a net without a timetable: the steps of a circuit, with their lengths in ticks.
 #[derive(Clone, Copy)]
-pub struct Circuit {
-    pub count: usize,
-    pub steps: [CircuitStep; 64],
-    ghost few: { count ≤ 64 },
-    ghost numbered: { (i : ℕ) → i < count → step_number (slice_index_or steps i no_step).step < 128 },
-    ghost sized: { (i : ℕ) → i < count → unsigned_abs (slice_index_or steps i no_step).length < 10 ^ 17 },
+pub struct Circuit<'a> {
+    pub steps: &'a [CircuitStep],
+    ghost few: { length steps.now ≤ 64 },
+    ghost numbered: { All (λ s. step_number s.step < 128) steps.now },
+    ghost sized: { All (λ s. unsigned_abs s.length < 10 ^ 17) steps.now },
 }

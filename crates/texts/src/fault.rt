@@ -27,9 +27,6 @@ impl<'a> TextFault<'a> {
             TextFault::Form(word) => (1, word.at),
             TextFault::Draft(fault, word) => (fault.told().number, word.at),
         };
-        Notice {
-            number,
-            place: Some(offset as u64),
-        }
+        Notice::at(number, offset as u64)
     }
 }

@@ -1,10 +1,11 @@
-ghost use Rattle.std.specs.Prelude.{◌≡◌, ◌*◌, ◌≤◌, map, take};
+ghost use Rattle.std.specs.Prelude.{◌≡◌, ◌*◌, ◌≤◌, map, length};
 ghost use Rattle.reports.specs.Bytes.{timetable_bytes};
 ghost use Rattle.reports.specs.Reported.{Reported};
 ghost use Rattle.boards.specs.Settling.{net_of, starts_of};
-ghost use Rattle.boards.specs.Showing.{new_net_lem, periods_of};
+ghost use Rattle.boards.specs.Showing.{new_net, periods_of};
 
 use crate::board::Board;
+use arrayvec::ArrayVec;
 use nets::sound::SoundNet;
 use nets::timed::TimedNet;
 use nets::{Net, Pace};
@@ -12,8 +13,8 @@ use reports::report::{ShortBuffer, report_timetable};
 use reports::told::Timetable;
 
 // One station of duration 1 and rate 1, no link, pace 1/1.
-fn new_net() -> Net
-    ensures { result ≡ new_net_lem }
+fn one_station() -> Net
+    ensures { result ≡ new_net }
 {
     let mut durations = [0; 64];
     durations[0] = 1;
@@ -29,13 +30,13 @@ fn new_net() -> Net
 }
 
 // The periods of the stations, in ticks: a share lasts `share` ticks.
-fn periods(stations: u8, share: u32, rates: &[u16; 64]) -> [u64; 64]
-    requires { stations ≤ 64 }
-    ensures { take stations result ≡ map (λ z. share * z) (take stations rates.now) }
+fn periods(rates: &[u16], share: u32) -> ArrayVec<u64, 64>
+    requires { length rates.now ≤ 64 }
+    ensures { result.items ≡ map (λ z. share * z) rates.now }
 {
-    let mut periods = [0; 64];
-    for i in 0..stations as usize {
-        periods[i] = share as u64 * rates[i] as u64;
+    let mut periods = ArrayVec::new();
+    for rate in rates {
+        periods.push(u64::from(share) * u64::from(*rate));
     }
     periods
 }
@@ -43,9 +44,9 @@ fn periods(stations: u8, share: u32, rates: &[u16; 64]) -> [u64; 64]
 impl Board {
     // A board with one station of duration 1, no link and pace 1/1.
     pub fn new() -> Board
-        ensures { result.timed.net.net ≡ new_net_lem }
+        ensures { result.timed.net.net ≡ new_net }
     {
-        let net = SoundNet { net: new_net() };
+        let net = SoundNet { net: one_station() };
         let timed = TimedNet {
             net,
             starts: [0; 64],
@@ -58,12 +59,12 @@ impl Board {
         ensures { Reported (timetable_bytes self.now.timed.net.net.stations (starts_of self.now) (periods_of (net_of self.now))) out.old out.new result }
     {
         let net = &self.timed.net.net;
-        let periods = periods(net.stations, net.pace.share, &net.rates);
-        let starts = self.timed.starts;
+        let stations = net.stations as usize;
+        let periods = periods(&net.rates[..stations], net.pace.share);
+        let starts = &self.timed.starts[..stations];
         let timetable = Timetable {
-            stations: net.stations,
             starts,
-            periods,
+            periods: periods.as_slice(),
         };
         report_timetable(&timetable, out)
     }

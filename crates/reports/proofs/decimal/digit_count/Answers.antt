@@ -1,27 +1,9 @@
-use Rattle.std.proofs.Common.{◌≡◌, ℕ, ◌-◌, ◌/◌, ◌^◌, ◌<◌, ◌≤◌, ◌⊎◌, inl, inr, arith, rules}
-use Rattle.reports.proofs.Widths.{width_is}
+-- The number without its last digit lies between two entries of the table.
+use Rattle.std.proofs.Common.{◌/◌, leb, arith, rules, tests}
+use Rattle.std.proofs.lemmas.List.Sorted.{IsPartitionedBy-leb, IsPartitionPoint-from_clause}
+use Rattle.reports.proofs.Powers.{tens, rising, counted}
 use Rattle.reports.proofs.decimal.digit_count.Goals as goal
 
-pub returns-then-n-power : goal.returns-then-n-power
-returns-then-n-power c = width_is c.loop-k.k c.args.n (omega arith) c.loop-k.invariant (omega (arith, c.if-n-power.true, c.power.ensures)) (search rules)
-
--- the loop came to its end: the number has 19 digits at least
-long : (k n : ℕ) → 19 ≤ k → k ≤ 19 → (k ≡ 1) ⊎ (10 ^ (k - 1) ≤ n) → 10 ^ 18 ≤ n
-long k n h l (inl e) = absurd (omega arith)
-long k n h l (inr p) =
-    let e : k ≡ 19 = omega arith in
-    rw e at p
-
-quotient : (p n : ℕ) → p ≡ 10 ^ 18 → n / p < 10 → n < 10 ^ 19
-quotient p n e h = let f : n / 10 ^ 18 < 10 = rw e at h in omega arith
-
-over : (p n : ℕ) → p ≡ 10 ^ 18 → 10 ≤ n / p → 10 ^ 19 ≤ n
-over p n e h = let f : 10 ≤ n / 10 ^ 18 = rw e at h in omega arith
-
-pub returns-then-n-power-lt10 : goal.returns-then-n-power-lt10
-returns-then-n-power-lt10 c =
-    width_is 19 c.args.n (omega arith) (inr (long c.loop-k.k c.args.n (omega arith) (omega arith) c.loop-k.invariant)) (quotient c.power-2.result c.args.n c.power-2.ensures c.if-n-power-lt10.true) (search rules)
-
-pub returns-else-n-power-lt10 : goal.returns-else-n-power-lt10
-returns-else-n-power-lt10 c =
-    width_is 20 c.args.n (omega arith) (inr (over c.power-2.result c.args.n c.power-2.ensures c.if-n-power-lt10.false)) (let f : c.args.n < 2 ^ 64 = search rules in omega arith) (search rules)
+pub returns-clause-count : goal.returns-clause-count
+returns-clause-count c =
+    counted c.args.n c.partition_point.result (search rules) (omega arith) (IsPartitionPoint-from_clause (λ y. leb y (c.args.n / 10)) (tens 19) c.partition_point.result c.partition_point.ensures.partitioned (IsPartitionedBy-leb (λ y. y) (tens 19) (c.args.n / 10) (rising 19)) (λ a r f' k. search (rules, tests)))

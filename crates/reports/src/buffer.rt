@@ -1,0 +1,51 @@
+ghost use Rattle.std.specs.Prelude.{◌≡◌, ◌+◌, ◌<◌, ◌≤◌, List, [], ◌∷◌, ◌++◌, length};
+
+use arrayvec::ArrayVec;
+use std::marker::Model;
+
+// A report as it is written, which contracts see as its bytes. Nothing of the engine allocates, so they stand in an array of 4,096.
+#[derive(Drop)]
+pub(crate) struct Report {
+    bytes: ArrayVec<u8, 4_096>,
+}
+
+impl Model for Report {
+    ghost use Rattle.std.specs.Prelude.{ℕ, List};
+
+    ghost Value = { List ℕ };
+
+    ghost view = { λ r. r.bytes.items };
+}
+
+impl Report {
+    pub(crate) fn new() -> Report
+        ensures { result ≡ [] }
+    {
+        Report {
+            bytes: ArrayVec::new(),
+        }
+    }
+
+    pub(crate) fn as_slice(&self) -> &[u8]
+        ensures bytes { result.now ≡ self.now }
+        ensures fits { length result.now ≤ 4_096 }
+    {
+        self.bytes.as_slice()
+    }
+
+    pub(crate) fn push(&mut self, byte: u8)
+        requires { length self.old < 4_096 }
+        ensures { self.new ≡ self.old ++ byte ∷ [] }
+    {
+        self.bytes.push(byte);
+    }
+
+    pub(crate) fn push_all(&mut self, bytes: &[u8])
+        requires { length self.old + length bytes.now ≤ 4_096 }
+        ensures { self.new ≡ self.old ++ bytes.now }
+    {
+        for byte in bytes {
+            self.push(*byte);
+        }
+    }
+}
