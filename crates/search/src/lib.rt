@@ -9,7 +9,7 @@ ghost use Rattle.search.specs.Answer.{Whole, around, Answered, Askable, NeutralP
 use lengths::{Joining, OrderedLength};
 
 // The node `to` starts at least the length after the node `from`.
-#[derive(Clone, Copy)]
+#[derive(Clone, Copy, Default)]
 pub struct Edge<L> {
     pub from: usize,
     pub to: usize,

@@ -10,10 +10,10 @@ use Rattle.rules.proofs.Existence.{pair_starts_allow_lem}
 use Rattle.lengths.specs.Models.{no_pair, more_pair, below_pair}
 use Rattle.search.specs.declared.Edge.{Edge}
 use Rattle.search.specs.Terms.{ends, EdgeChain, total, EdgeCircuit, LeastStarts}
-use Rattle.timing.specs.Edges.{pair}
+use Rattle.timing.specs.Edges.{edges_of, pair}
 use Rattle.timing.specs.Pacing.{pair_of}
 use Rattle.timing.proofs.Orders.{less, no_less}
-use Rattle.timing.proofs.Bridge.{step_at, edges_of, begins_at, ends_at, lasts_at, number, circuit_as}
+use Rattle.timing.proofs.Bridge.{step_at, begins_at, ends_at, lasts_at, number, circuit_as}
 
 -- The order of pairs, taken apart
 
