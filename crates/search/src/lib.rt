@@ -1,7 +1,7 @@
 // Least starts over edges with lengths of any ordered kind, or a circuit whose joined length is above neutral.
 #![tactic(auto)]
 
-ghost use Rattle.std.specs.Prelude.{◌≡◌, ◌↔◌, ◌≢◌, ℕ, ◌+◌, ◌-◌, ◌<◌, ◌≤◌, List, length, replicate, Option, None, IfSome, IfNone, IfOk, IsTrue, All, MatchOption, MatchResult, slice_index};
+ghost use Rattle.std.specs.Prelude.{◌≡◌, if◌then◌else◌, ◌↔◌, ◌≢◌, ℕ, ◌+◌, ◌-◌, ◌<◌, ◌≤◌, length, take, Option, None, IfSome, IfNone, IfOk, IsTrue, All, MatchOption, MatchResult, slice_index};
 ghost use Rattle.lengths.specs.Laws.{comes_before};
 ghost use Rattle.search.specs.Terms.{begins, ends, Searchable, EdgeCircuit, LeastStarts};
 ghost use Rattle.search.specs.Levels.{EdgeFits, Joinable, Level, Levelled, Marked, LowestAt, Rising};
@@ -37,6 +37,18 @@ impl<L: OrderedLength> Edge<L> {
     {
         self.from < nodes && self.to < nodes && self.length.measure() <= L::LARGEST / 64
     }
+}
+
+// Raises the length to the one that is reached, where that is greater, and says whether it was so.
+fn raise<L: OrderedLength>(length: &mut L, reached: L) -> bool
+    ensures greater { result ≡ comes_before L.cmp length.old reached }
+    ensures raised { length.new ≡ (if result then reached else length.old) }
+{
+    let greater = *length < reached;
+    if greater {
+        *length = reached;
+    }
+    greater
 }
 
 // Whether each edge fits.
@@ -97,9 +109,7 @@ impl<'a, L: OrderedLength> Graph<'a, L> {
         let mut raised = None;
         for (i, edge) in self.edges.iter().enumerate() {
             let reached = before[edge.from].join(edge.length);
-            let length = &mut best[edge.to];
-            if *length < reached {
-                *length = reached;
+            if raise(&mut best[edge.to], reached) {
                 via[edge.to] = Some(i);
                 raised = Some(edge.to);
             }
@@ -132,6 +142,16 @@ impl<'a, L: OrderedLength> Graph<'a, L> {
         chain
     }
 
+    // The circuit of the chain up to and with the edge at the place.
+    fn circuit_to(&self, mut chain: Circuit, place: usize) -> Circuit
+        requires inside { place < length chain.items }
+        requires rising { Rising L.neutral L.joined (comes_before L.cmp) self.now.edges.now (take (place + 1) chain.items) }
+        ensures { EdgeCircuit L.neutral L.joined (comes_before L.cmp) self.now.edges.now result.items }
+    {
+        chain.truncate(place + 1);
+        self.from_lowest(chain)
+    }
+
     // The first place in the chain whose edge ends at the node.
     fn place_of_end(&self, chain: &[usize], node: usize) -> Option<usize>
         requires { All (λ e. e < length self.now.edges.now) chain.now }
@@ -155,8 +175,7 @@ impl<'a, L: OrderedLength> Graph<'a, L> {
             chain.insert(0, edge);
             node = self.begin_of(edge);
             if let Some(place) = self.place_of_end(&chain, node) {
-                chain.truncate(place + 1);
-                return self.from_lowest(chain);
+                return self.circuit_to(chain, place);
             }
         }
         unreachable()

@@ -1,10 +1,9 @@
-use Rattle.std.proofs.Common.{◌∙◌, arith, rules}
+use Rattle.std.proofs.Common.{sym, ◌∙◌, arith, rules}
 use Rattle.std.proofs.lemmas.List.{get_or_default, set-get_or}
 use Rattle.search.proofs.EdgeReads.{begins_is, lasts_is, from_in, to_in}
-use Rattle.search.proofs.Order.{compared}
 use Rattle.search.proofs.Stepping.{level_none, turn_keep, turn_raise}
 use Rattle.search.proofs.Graph.next_level.Goals as goal
-use Rattle.search.proofs.Graph.next_level.Goals.{then-lt, else-lt}
+use Rattle.search.proofs.Graph.next_level.Goals.{then-raise, else-raise}
 
 pub loop-i-init : goal.loop-i-init
 loop-i-init g c = level_none g.L.Joining.neutral g.met.L.OrderedLength.orders _ _ c.told-before
@@ -48,12 +47,11 @@ bounds-via-edge g c = to_in _ _ _ c.loop-i-test.true c.edge-item.is c.args.self.
 
 pub loop-i-preserved : goal.loop-i-preserved
 loop-i-preserved g c =
-    let answer = compared g.L.PartialOrd.partial_cmp g.L.Ord.cmp _ _ (g.met.L.Ord.matches_partial_cmp _ _) c.lt.result c.lt.ensures in
-    elim c.if-lt.branch [
-      | then-lt w ↦
-          rw (w.best-is, w.via-is, w.raised-is)
-          (turn_raise g.met.L.OrderedLength.orders c.args.self.now.searchable c.loop-i.invariant c.loop-i-test.true _ c.edge-item.is c.told-before _ _ _ c.join-reached.ensures (answer ∙ w.if-lt.true))
-      | else-lt w ↦
-          rw (w.best-is, w.via-is, w.raised-is, set-get_or c.loop-i.best c.edge-item.result.to c.index-best-edge.result)
-          (turn_keep g.met.L.OrderedLength.orders c.args.self.now.searchable c.loop-i.invariant c.loop-i-test.true _ c.edge-item.is c.told-before _ _ _ c.join-reached.ensures (answer ∙ w.if-lt.false))
+    elim c.if-raise.branch [
+      | then-raise w ↦
+          rw (w.via-is, w.raised-is, rw w.if-raise.true at c.raise.ensures.raised)
+          (turn_raise g.met.L.OrderedLength.orders c.args.self.now.searchable c.loop-i.invariant c.loop-i-test.true _ c.edge-item.is c.told-before _ _ c.index-best-edge.result c.join-reached.ensures (sym c.raise.ensures.greater ∙ w.if-raise.true))
+      | else-raise w ↦
+          rw (w.via-is, w.raised-is, rw w.if-raise.false at c.raise.ensures.raised, set-get_or c.loop-i.best c.edge-item.result.to c.index-best-edge.result)
+          (turn_keep g.met.L.OrderedLength.orders c.args.self.now.searchable c.loop-i.invariant c.loop-i-test.true _ c.edge-item.is c.told-before _ _ c.index-best-edge.result c.join-reached.ensures (sym c.raise.ensures.greater ∙ w.if-raise.false))
     ]

@@ -1,4 +1,4 @@
-use Rattle.std.proofs.Common.{◌≡◌, ◌<◌, length, replicate, Option, None, sym, refl, ◌∙◌, arith, rules}
+use Rattle.std.proofs.Common.{refl, ◌∙◌, rules}
 use Rattle.std.proofs.lemmas.List.{get_or-replicate}
 use Rattle.search.specs.Levels.{first}
 use Rattle.search.proofs.Histories.{history_room, history_least, history_more, history_past, wider, marked_next, raised_node, row_in}
@@ -13,13 +13,13 @@ loop-via-init g c = record {
 pub next_level-requires : goal.next_level-requires
 next_level-requires g c =
     let s = c.args.self.now.searchable in
-    let row = row_in c.loop-via.vias c.args.self.now.nodes c.loop-via.via-index (replicate 64 None) s.few c.loop-via.auto.vias c.loop-via-test.true in
+    let row = row_in c.loop-via.vias _ c.loop-via.via-index _ c.loop-via.auto.vias c.loop-via-test.true in
     (search rules, history_room g.met.L.Joining.joins g.met.L.OrderedLength.orders _ _ g.L.Joining.LARGEST (wider c.args.self.now.edges.now c.args.self.now.nodes 64 s.few s.inside) s.room row.1 c.loop-via.invariant.levels)
 
 pub loop-via-preserved : goal.loop-via-preserved
 loop-via-preserved g c =
     let s = c.args.self.now.searchable in
-    let row = row_in c.loop-via.vias c.args.self.now.nodes c.loop-via.via-index (replicate 64 None) s.few c.loop-via.auto.vias c.loop-via-test.true in
+    let row = row_in c.loop-via.vias _ c.loop-via.via-index _ c.loop-via.auto.vias c.loop-via-test.true in
     let level = c.in-Some.ensures in
     record {
       levels = history_more _ _ c.loop-via.via-index _ _ _ _ row.0 c.loop-via.invariant.levels level;
@@ -29,7 +29,7 @@ loop-via-preserved g c =
 pub returns-in_default-clause-found : goal.returns-in_default-clause-found
 returns-in_default-clause-found g c =
     let s = c.args.self.now.searchable in
-    let row = row_in c.loop-via.vias c.args.self.now.nodes c.loop-via.via-index (replicate 64 None) s.few c.loop-via.auto.vias c.loop-via-test.true in
+    let row = row_in c.loop-via.vias _ c.loop-via.via-index _ c.loop-via.auto.vias c.loop-via-test.true in
     history_least g.met.L.Joining.joins g.met.L.OrderedLength.orders _ _ c.args.self.now.nodes s.inside s.few _ _ row.1 c.loop-via.invariant.levels c.in_default.ensures
 
 pub returns-in_default-clause-past : goal.returns-in_default-clause-past

@@ -1,7 +1,7 @@
 use Rattle.std.proofs.Common.{[], sym, ap, ◌∙◌, add-one, arith, rules}
 use Rattle.std.proofs.Math.Seq.{take-length}
 use Rattle.search.specs.Terms.{ends}
-use Rattle.search.proofs.Walking.{last_row, absent_from, chain_in, walk_none, walk_ends, walk_closes, walk_marked, walk_node, walk_room, walk_known, walk_next}
+use Rattle.search.proofs.Walking.{last_row, absent_from, chain_in, walk_none, walk_ends, walk_closes, walk_marked, walk_room, walk_known, walk_next}
 use Rattle.search.proofs.Graph.walked_back.Goals as goal
 
 pub loop-via-init : goal.loop-via-init
@@ -41,12 +41,14 @@ place_of_end-requires g c =
     let walk = walk_next g.met.L.Joining.joins g.met.L.OrderedLength.orders c.args.self.now.edges.now c.args.self.now.searchable c.args.vias.now _ _ _ c.in-Some.ensures.steps c.loop-via.invariant.rows _ _ c.loop-via.invariant.walk _ c.in-Some-via.is c.loop-via.invariant.once c.begin_of-node.result c.insert.new.self.items c.begin_of-node.ensures c.insert.ensures.items in
     rw c.deref.ensures.0 (chain_in c.args.self.now.edges.now _ _ walk.last walk.chain)
 
-pub from_lowest-requires : goal.from_lowest-requires
-from_lowest-requires g c =
+pub circuit_to-requires : goal.circuit_to-requires
+circuit_to-requires g c =
     let walk = walk_next g.met.L.Joining.joins g.met.L.OrderedLength.orders c.args.self.now.edges.now c.args.self.now.searchable c.args.vias.now _ _ _ c.in-Some.ensures.steps c.loop-via.invariant.rows _ _ c.loop-via.invariant.walk _ c.in-Some-via.is c.loop-via.invariant.once c.begin_of-node.result c.insert.new.self.items c.begin_of-node.ensures c.insert.ensures.items in
     let found = rw c.deref.ensures.0 at c.in-Some-place_of_end.ensures in
-    rw (c.truncate.ensures.items, add-one)
-    (walk_closes g.met.L.Joining.joins g.met.L.OrderedLength.orders c.args.self.now.edges.now c.args.vias.now c.args.self.now.nodes _ _ _ c.in-Some-place_of_end.place walk found.0 found.1)
+    record {
+      inside = found.0;
+      rising = rw add-one (walk_closes g.met.L.Joining.joins g.met.L.OrderedLength.orders c.args.self.now.edges.now c.args.vias.now c.args.self.now.nodes _ _ _ c.in-Some-place_of_end.place walk found.0 found.1);
+    }
 
 pub loop-via-preserved : goal.loop-via-preserved
 loop-via-preserved g c =
