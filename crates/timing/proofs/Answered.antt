@@ -1,5 +1,5 @@
 -- What the search in ticks answers, told of the net. Assumes nothing.
-use Rattle.std.proofs.Common.{◌≡◌, ℕ, zero, suc, ◌<◌, ◌≤◌, List, [], ◌∷◌, map, length, get_or, take, replicate, pos, nat_abs, ◌<ℤ◌, sym, refl, ap, ◌∙◌, subst, inl, inr, arith}
+use Rattle.std.proofs.Common.{◌≡◌, ℕ, ◌<◌, ◌≤◌, List, [], ◌∷◌, map, length, All, get_or, take, pos, nat_abs, ◌<ℤ◌, sym, refl, ap, ◌∙◌, subst, inl, inr, arith}
 use lib.ListN
 use lib.ListN.{length-map}
 use Rattle.std.proofs.lemmas.Bool.{cases_lt}
@@ -13,10 +13,8 @@ use Rattle.rules.proofs.Sizes.{steps_sized_lem}
 use Rattle.rules.proofs.Tested.{open_below}
 use Rattle.lengths.specs.declared.Ticks.{Ticks}
 use Rattle.lengths.specs.Models.{no_ticks, more_ticks, below_ticks}
-use Rattle.search.specs.declared.Outcome.{Outcome}
-use Rattle.search.specs.declared.Outcome.TheVariants.{Starts, Above}
 use Rattle.search.specs.Terms.{LeastStarts, EdgeCircuit}
-use Rattle.search.specs.Answer.{NeutralPast, LeftNeutral}
+use Rattle.search.specs.Answer.{NeutralPast}
 use Rattle.search.proofs.Walking.{chain_in}
 use Rattle.nets.specs.declared.Net.{Net}
 use Rattle.nets.specs.declared.Step as code
@@ -29,16 +27,6 @@ use Rattle.timing.specs.Timing.{start_of, Lowest, Told, told_step}
 use Rattle.timing.proofs.Opened.{stations_are}
 use Rattle.timing.proofs.Bridge.{step_at, as_many, many, step_read, step_has, circuit_as, froms_are}
 use Rattle.timing.proofs.Ticked.{above_ticks, least_as, start_sized}
-
-anywhere : {X : Type 0} (d : X) (m k : ℕ) → get_or (replicate m d) k d ≡ d
-anywhere d zero k = refl
-anywhere d (suc m) zero = refl
-anywhere d (suc m) (suc k) = anywhere d m k
-
--- Past the last node, starts are left neutral
-pub past_neutral : {L : Type 0} (neutral : L) (nodes : ℕ) (starts spare : List L) (o : Outcome) → LeftNeutral neutral nodes starts spare o → NeutralPast neutral nodes starts
-past_neutral neutral nodes starts spare Starts l = l.1
-past_neutral neutral nodes starts spare (Above w) l = λ y h. ap (λ z. get_or z y neutral) l.0 ∙ anywhere neutral 64 y
 
 module _ (N : Net) (G : Good N) where
   abbrev M : rules.Net
@@ -90,8 +78,8 @@ module _ (N : Net) (G : Good N) where
     lengths_are (e ∷ c) = let q = lengths_are c in λ x. ticks M (of_step (get_or steps e (Forward 0))) ∷ q x
 
     module _ (c : List ℕ) (C : EdgeCircuit no_ticks more_ticks below_ticks (edges_of M (in_ticks M)) c) where
-      pub known_in : (t : ℕ) → t < length c → get_or c t 0 < length steps
-      known_in t h = omega (arith, chain_in (edges_of M (in_ticks M)) C.closed.0 c C.closed.0 t C.closed.1 h, many M (in_ticks M), as_many M steps all)
+      pub known_in : All (λ e. e < length steps) c
+      known_in t d h = omega (arith, chain_in (edges_of M (in_ticks M)) C.closed.0 c C.closed.0 C.closed.1 t d h, many M (in_ticks M), as_many M steps all)
 
       abbrev Says : List Step → Type 0
       Says zs = (K : Closed M zs) × (pos 0 <ℤ ticks_of M zs) × Lowest K.closed.0 (map (leads_from M) zs)
@@ -117,7 +105,7 @@ module _ (N : Net) (G : Good N) where
         told_read = ap (λ z. get_or z t no_step) q ∙ get_or-map tell c t 0 no_step (omega (arith, ap length q, length-map c tell))
 
         has : Has M (of_step step)
-        has = step_has M steps all (get_or c t 0) (known_in t (omega (arith, ap length q, length-map c tell)))
+        has = step_has M steps all (get_or c t 0) (known_in t 0 (omega (arith, ap length q, length-map c tell)))
 
         pub numbered : step_number (get_or told t no_step).step < 128
         numbered = omega (arith, ap (λ (z : CircuitStep). step_number z.step) told_read, below_128 step has)

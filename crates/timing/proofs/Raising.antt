@@ -33,13 +33,13 @@ use Rattle.timing.proofs.Orders.{less, no_less}
 
 -- The pair of a chain, step by step
 
-pair_push : (N : rules.Net) (ks : List Step) (s : Step) → pair_of N (ks ++ (s ∷ [])) ≡ more_pair (pair_of N ks) (pair N s)
+pair_push : (N : rules.Net) (ks : List Step) (s : Step) → pair_of N (ks ++ (s ∷ [])) ≡ (more_pair ◌+ℤ◌) (pair_of N ks) (pair N s)
 pair_push N ks s =
     let a : shares_of N (ks ++ (s ∷ [])) ≡ shares_of N ks +ℤ shares N s = shares_join N ks (s ∷ []) ∙ ap (λ z. shares_of N ks +ℤ z) (+ℤ_idr (shares N s)) in
     let b : time_of N (ks ++ (s ∷ [])) ≡ time_of N ks + time N s = omega (arith, time_join N ks (s ∷ [])) in
     λ x. (a x, pos (b x))
 
-pair_sized : (N : rules.Net) → Sound N → InRange N → (ks : List Step) → ((e : ℕ) → e < length ks → Has N (get_or ks e (forward 0))) → size_pair (pair_of N ks) ≤ length ks * 100_000_000
+pair_sized : (N : rules.Net) → Sound N → InRange N → (ks : List Step) → ((e : ℕ) → e < length ks → Has N (get_or ks e (forward 0))) → (size_pair nat_abs) (pair_of N ks) ≤ length ks * 100_000_000
 pair_sized N S R [] h = omega arith
 pair_sized N S R (s ∷ ks) h =
     let z = steps_sized_lem N S R s (h 0 (omega arith)) in
@@ -91,16 +91,16 @@ module _ (N : Net) (G : Good N) (c : Circuit) (R : Refused N c) where
           let g : i < t = omega (arith, fs_long) in
           subst (Has M) (sym (ap (λ z. get_or z i (forward 0)) (sym (take-map step_of t cs)) ∙ get_or-take t (map step_of cs) i (forward 0) g)) (has i (omega (arith, inside)))
 
-      pub join_room : size_pair sum + size_pair e.length ≤ 0x7fff_ffff_ffff_ffff
+      pub join_room : (size_pair nat_abs) sum + (size_pair nat_abs) e.length ≤ 0x7fff_ffff_ffff_ffff
       join_room =
           let z = pair_sized M G.sound G.range fs fs_has in
           let y = steps_sized_lem M G.sound G.range (of_step (get_or cs t no_step).step) (step_has t inside) in
-          omega (arith, fs_long, inside, R.few, y.shares, y.time, ap size_pair so, ap (λ (x : Edge (ℤ × ℤ)). size_pair x.length) ee)
+          omega (arith, fs_long, inside, R.few, y.shares, y.time, ap (size_pair nat_abs) so, ap (λ (x : Edge (ℤ × ℤ)). (size_pair nat_abs) x.length) ee)
 
-      pub join_more : more_pair sum e.length ≡ pair_of M (map step_of (take (t + 1) cs))
+      pub join_more : (more_pair ◌+ℤ◌) sum e.length ≡ pair_of M (map step_of (take (t + 1) cs))
       join_more =
           let l = ap (λ (z : Edge (ℤ × ℤ)). z.length) ee in
-          (λ x. more_pair (so x) (l x))
+          (λ x. (more_pair ◌+ℤ◌) (so x) (l x))
           ∙ sym (pair_push M fs (of_step (get_or cs t no_step).step))
           ∙ ap (pair_of M) (sym (map_more step_of cs t no_step inside))
 

@@ -1,14 +1,18 @@
 -- A net's steps as edges of the search. Assumes nothing.
-use Rattle.std.specs.Prelude.{ℕ, List, map, ◌*◌, ◌/◌, ◌<◌, ◌≤◌, ℤ, pos, ◌-ℤ◌, neg_ℤ, slice_index}
+use Rattle.std.specs.Prelude.{ℕ, Bool, List, map, Ok, Err, Result, ◌*◌, ◌/◌, ◌<◌, ◌≤◌, ℤ, pos, ◌-ℤ◌, neg_ℤ, slice_index}
 use Rattle.handover.specs.Gcd.{gcd}
 use Rattle.rules.specs.Net as rules
 use Rattle.rules.specs.Steps.{Step, leads_from, leads_to, shares, time, ticks}
 use Rattle.lengths.specs.declared.Ticks.{Ticks}
 use Rattle.lengths.specs.Models.{of_ticks}
+use Rattle.arrayvec.specs.ArrayVec.{ArrayVec}
 use Rattle.search.specs.declared.Edge.{Edge}
+use Rattle.search.specs.Terms.{LeastStarts, EdgeCircuit}
+use Rattle.search.specs.Answer.{NeutralPast}
 use Rattle.timing.specs.Listing.{steps_of}
 use Rattle.nets.specs.declared.Link.{Link}
 use Rattle.nets.specs.declared.Net.{Net}
+use Rattle.nets.specs.Views.{of_net}
 
 -- A link is open under k.
 abbrev pub Opens : rules.Net → ℕ → Type 0
@@ -21,6 +25,11 @@ edge_of N w s = record { from = leads_from N s; to = leads_to N s; length = w s 
 -- All steps of the net as edges: edge e is step e.
 abbrev pub edges_of : {L : Type 0} → rules.Net → (Step → L) → List (Edge L)
 edges_of N w = map (edge_of N w) (steps_of N)
+
+-- What a search over the steps finds, for lengths of a kind: the least starts, neutral past the last station; or a circuit above neutral.
+abbrev pub Found : {L : Type 0} → L → (L → L → L) → (L → L → Bool) → Net → (Step → L) → Result (List L) (ArrayVec ℕ) → Type 0
+Found neutral joined below N w (Ok starts) = LeastStarts neutral joined below N.stations (edges_of (of_net N) w) starts × NeutralPast neutral N.stations starts
+Found neutral joined below N w (Err circuit) = EdgeCircuit neutral joined below (edges_of (of_net N) w) circuit.items
 
 -- The two kinds: its pair, shares and time; and its length in ticks.
 abbrev pub pair : rules.Net → Step → ℤ × ℤ

@@ -13,13 +13,13 @@ use lengths::{Joining, OrderedLength, Ticks};
 use search::Edge;
 
 // A kind of length that the steps of a net have. 64 of them can be joined.
-pub(crate) trait StepLength: OrderedLength + Default {
+pub(crate) trait StepLength: OrderedLength {
     ghost measured: { rules.Net → model.Step → Self };
 
     fn edge(step: &NetStep) -> Edge<Self>
         ensures { result ≡ edge_of (of_net step.now.net.now.net) (measured (of_net step.now.net.now.net)) (of_step step.now.step) };
 
-    ghost roomy: { (N : rules.Net) → rules.Sound N → InRange N → (s : model.Step) → model.Has N s → 64 * Self.Joining.size (measured N s) ≤ Self.Joining.largest };
+    ghost roomy: { (N : rules.Net) → rules.Sound N → InRange N → (s : model.Step) → model.Has N s → 64 * Self.Joining.size (measured N s) ≤ Self.Joining.LARGEST };
 }
 
 impl StepLength for (i64, i64) {

@@ -1,10 +1,10 @@
 // The steps of a net, all of them, by their numbers.
-ghost use Rattle.std.specs.Prelude.{◌≡◌, ℕ, ◌<◌, ◌≤◌, map, length, slice_index, slice_index_or};
+ghost use Rattle.std.specs.Prelude.{◌≡◌, ◌<◌, ◌≤◌, map, length, All, slice_index_or};
 ghost use Rattle.arrayvec.specs.ArrayVec.{array_vec_len};
 ghost use Rattle.nets.specs.Views.{of_net, of_step};
 ghost use Rattle.nets.specs.declared.Step.TheVariants.{Forward};
-ghost use Rattle.search.specs.Answer.{Answered, NeutralPast};
-ghost use Rattle.timing.specs.Edges.{edges_of};
+ghost use Rattle.lengths.specs.Laws.{comes_before};
+ghost use Rattle.timing.specs.Edges.{edges_of, Found};
 ghost use Rattle.timing.specs.Listing.{links_to, steps_of};
 ghost use Rattle.timing.specs.Timing.{told_step};
 
@@ -14,7 +14,7 @@ use arrayvec::ArrayVec;
 use lengths::{Joining, OrderedLength};
 use nets::sound::SoundNet;
 use nets::{CircuitStep, Step};
-use search::{Edge, Outcome, least_starts};
+use search::{Circuit, Edge, SearchError, least_starts};
 
 // The steps of the links, in the order of their numbers.
 fn link_steps(net: &SoundNet) -> ArrayVec<Step, 320>
@@ -65,64 +65,56 @@ impl<'a> Steps<'a> {
         }
     }
 
-    // The steps as edges, in place of what `edges` holds: edge e is step e.
-    fn put_edges<L: StepLength>(&self, edges: &mut ArrayVec<Edge<L>, 320>)
-        ensures { edges.new.items ≡ edges_of (of_net self.now.net.now.net) (L.measured (of_net self.now.net.now.net)) }
+    // The steps as edges: edge e is step e.
+    fn put_edges<L: StepLength>(&self, edges: &mut [Edge<L>])
+        requires room { length edges.old ≡ array_vec_len self.now.list }
+        ensures { edges.new ≡ edges_of (of_net self.now.net.now.net) (L.measured (of_net self.now.net.now.net)) }
     {
-        edges.clear();
-        for &step in self.list.iter() {
-            edges.push(L::edge(&NetStep {
+        for (e, &step) in self.list.iter().enumerate() {
+            edges[e] = L::edge(&NetStep {
                 net: self.net,
                 step,
-            }));
+            });
         }
     }
 
-    // The least starts of the stations, or a circuit above neutral, by the number of each step. What `memory` holds does not matter.
-    pub(crate) fn search<L: StepLength>(&self, memory: &mut Memory<L>) -> Outcome
-        ensures answered { Answered L.Joining.neutral L.Joining.joined L.OrderedLength.below self.now.net.now.net.stations (edges_of (of_net self.now.net.now.net) (L.measured (of_net self.now.net.now.net))) memory.new.starts result }
-        ensures past { NeutralPast L.Joining.neutral self.now.net.now.net.stations memory.new.starts }
+    // The least starts of the stations, and neutral past the last one, or a circuit above neutral, by the number of each step.
+    // It does not matter what `memory` holds. The caller makes it, who knows the kind of length: generic code cannot know that it fits.
+    pub(crate) fn search<L: StepLength>(
+        &self,
+        memory: &mut [Edge<L>; 320],
+    ) -> Result<[L; 64], Circuit>
+        ensures { Found L.neutral L.joined (comes_before L.cmp) self.now.net.now.net (L.measured (of_net self.now.net.now.net)) result }
     {
-        self.put_edges(&mut memory.edges);
-        match least_starts(
-            self.net.net.stations as usize,
-            memory.edges.as_slice(),
-            &mut memory.starts,
-            &mut memory.spare,
-        ) {
-            Some(outcome) => outcome,
-            None => unreachable(),
+        let edges = &mut memory[..self.list.len()];
+        self.put_edges(edges);
+        match least_starts(self.net.net.stations as usize, edges) {
+            Ok(starts) => Ok(starts),
+            Err(SearchError::Above(circuit)) => Err(circuit),
+            Err(SearchError::Unsearchable) => unreachable(),
         }
     }
 
     // The circuit of the steps of these numbers, with their lengths.
-    pub(crate) fn told(&self, circuit: &[usize]) -> ArrayVec<CircuitStep, 64>
-        requires few { length circuit.now ≤ 64 }
-        requires known { (t : ℕ) → t < length circuit.now → slice_index circuit.now t < array_vec_len self.now.list }
-        ensures { result.items ≡ map (λ e. told_step (of_net self.now.net.now.net) (slice_index_or self.now.list.items e (Forward 0))) circuit.now }
+    pub(crate) fn told(&self, circuit: &Circuit) -> ArrayVec<CircuitStep, 64>
+        requires known { All (λ e. e < array_vec_len self.now.list) circuit.now.items }
+        ensures few { array_vec_len result ≤ 64 }
+        ensures steps { result.items ≡ map (λ e. told_step (of_net self.now.net.now.net) (slice_index_or self.now.list.items e (Forward 0))) circuit.now.items }
     {
         let mut told = ArrayVec::new();
-        for &e in circuit {
+        for &e in circuit.iter() {
             told.push(self.get(e).told());
         }
         told
     }
 }
 
-// The memory of a search, made where the kind of length is known: generic code cannot know that it fits.
-#[derive(Drop)]
-pub(crate) struct Memory<L> {
-    edges: ArrayVec<Edge<L>, 320>,
-    pub(crate) starts: [L; 64],
-    spare: [L; 64],
-}
-
-impl<L: StepLength> Memory<L> {
-    pub(crate) fn new() -> Memory<L> {
-        Memory {
-            edges: ArrayVec::new(),
-            starts: [L::none(); 64],
-            spare: [L::none(); 64],
-        }
-    }
+// Memory for the edges of all steps of a net.
+pub(crate) fn edge_memory<L: StepLength>() -> [Edge<L>; 320] {
+    let none = Edge {
+        from: 0,
+        to: 0,
+        length: L::none(),
+    };
+    [none; 320]
 }

@@ -7,7 +7,7 @@ ghost use Rattle.nets.specs.Views.{of_net, step_of};
 ghost use Rattle.timing.specs.Timing.{Refused};
 ghost use Rattle.timing.specs.Pacing.{pair_of, named_by, Raises, FirstPace, lowest_terms, FastestPace};
 
-use crate::list::{Memory, Steps};
+use crate::list::{Steps, edge_memory};
 use crate::solve::solve_net;
 use crate::steps::NetStep;
 use crate::{Raised, repaced};
@@ -16,18 +16,15 @@ use lengths::Joining;
 use nets::Pace;
 use nets::circuit::Circuit;
 use nets::sound::SoundNet;
-use search::Outcome;
 
 // Whether a circuit's pair is above (0, 0), so that no pace has a timetable; else some pace has one.
 fn pairs_above(net: &SoundNet) -> bool
     ensures above { result ≡ true → PairCircuit (of_net net.now.net) }
     ensures allows { result ≡ false → SomePace (of_net net.now.net) }
 {
-    let mut memory = Memory::<(i64, i64)>::new();
-    match Steps::of(net).search(&mut memory) {
-        Outcome::Starts => false,
-        Outcome::Above(_) => true,
-    }
+    Steps::of(net)
+        .search(&mut edge_memory::<(i64, i64)>())
+        .is_err()
 }
 
 // The pair of a circuit: its shares and its time.

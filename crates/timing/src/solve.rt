@@ -2,12 +2,11 @@
 ghost use Rattle.std.specs.Prelude.{◌≡◌, map, MatchResult};
 ghost use Rattle.timing.specs.Timing.{start_of, Timed, Refused};
 
-use crate::list::{Memory, Steps};
+use crate::list::{Steps, edge_memory};
 use lengths::Ticks;
 use nets::circuit::Circuit;
 use nets::sound::SoundNet;
 use nets::timed::TimedNet;
-use search::Outcome;
 
 // A start, of a length in ticks that is not below 0.
 fn start_at(best: Ticks) -> u64
@@ -28,14 +27,13 @@ pub(crate) fn solve_net(net: &SoundNet) -> Result<TimedNet, Circuit>
     ensures { MatchResult result (Timed net.now) (Refused net.now.net) }
 {
     let steps = Steps::of(net);
-    let mut memory = Memory::new();
-    match steps.search(&mut memory) {
-        Outcome::Starts => {
-            let starts = starts_at(memory.starts);
+    match steps.search(&mut edge_memory()) {
+        Ok(best) => {
+            let starts = starts_at(best);
             Ok(TimedNet { net: *net, starts })
         }
-        Outcome::Above(round) => {
-            let steps = steps.told(&round.edges[..round.count]);
+        Err(circuit) => {
+            let steps = steps.told(&circuit);
             Err(Circuit { steps })
         }
     }
