@@ -1,30 +1,85 @@
--- The laws of pairs. Assumes nothing.
-use Rattle.std.specs.Prelude.{◌≡◌, ◌+◌, ◌≤◌, ℤ, ◌+ℤ◌, unsigned_abs, refl}
-use Rattle.std.proofs.Common.{arith}
+-- The laws of orders by `cmp`, of numbers and of pairs. Assumes nothing.
+use Rattle.std.specs.Prelude.{◌≡◌, ℕ, ◌+◌, ◌≤◌, Bool, true, false, ◌⊎◌, ℤ, pos, ◌+ℤ◌, neg_ℤ, unsigned_abs, refl}
+use Rattle.std.specs.declared.cmp.Ordering.{Ordering}
+use Rattle.std.specs.declared.cmp.Ordering.TheVariants.{Less, Equal, Greater}
+use Rattle.std.specs.Ordering.{ordering_then, is_lt}
+use Rattle.std.specs.Cmp.{IsTotalOrder, tied_itself, then_total, on_total}
+use Rattle.std.proofs.Common.{arith, sym, ap, ◌∙◌, inl, inr}
 use Rattle.std.proofs.lemmas.Int.{ints}
-use Rattle.lengths.specs.Laws.{JoinLaws, OrderLaws}
-use Rattle.lengths.specs.Models.{no_pair, more_pair, back_pair, size_pair, below_pair}
+use Rattle.lengths.specs.Laws.{JoinLaws, OrderLaws, comes_before}
+use Rattle.lengths.specs.Models.{more_pair, back_pair, size_pair}
 
-pub both : {a b c d : ℤ} → a ≡ c → b ≡ d → ◌≡◌ {A = ℤ × ℤ} (a, b) (c, d)
-both p q = cc
+less : (r : Ordering) → is_lt r ≡ true → r ≡ Less
+less Less e = refl
+less Equal e = cc
+less Greater e = cc
+
+equal : {L : Type 0} {cmp : L → L → Ordering} (o : IsTotalOrder cmp) (same : (x y : L) → cmp x y ≡ Equal → x ≡ y) (x y : L) (r : Ordering) → cmp x y ≡ r → is_lt r ≡ false → comes_before cmp y x ≡ false → x ≡ y
+equal o same x y Less e p q = cc
+equal o same x y Equal e p q = same x y e
+equal o same x y Greater e p q = let a = o.antisymm y x in let b = rw e at a in absurd (let z : true ≡ false = sym (ap is_lt b) ∙ q in cc)
+
+-- An order by `cmp` keeps the laws, where it tells apart any two that differ and joining keeps what is less.
+module _ {L : Type 0} {joined : L → L → L} {cmp : L → L → Ordering} where
+  pub order_laws : IsTotalOrder cmp → ((x y : L) → cmp x y ≡ Equal → x ≡ y) → ((x y z : L) → cmp x y ≡ Less → cmp (joined x z) (joined y z) ≡ Less) → OrderLaws joined (comes_before cmp)
+  order_laws o same kept = record {
+    irreflexive = λ x. ap is_lt (tied_itself o x);
+    transitive = λ x y z p q. ap is_lt (o.trans x y z (less _ p) (less _ q));
+    total = λ x y p q. equal o same x y (cmp x y) refl p q;
+    kept = λ x y z p. ap is_lt (kept x y z (less _ p));
+  }
+
+  pub same_of : IsTotalOrder cmp → OrderLaws joined (comes_before cmp) → (x y : L) → cmp x y ≡ Equal → x ≡ y
+  same_of o l x y e = l.total x y (ap is_lt e) (let a = o.antisymm y x in ap is_lt (rw e at a))
+
+both_equal : (r s : Ordering) → ordering_then r s ≡ Equal → (r ≡ Equal) × (s ≡ Equal)
+both_equal Less s e = cc
+both_equal Equal s e = (refl, e)
+both_equal Greater s e = cc
+
+first_less : (r s : Ordering) → ordering_then r s ≡ Less → (r ≡ Less) ⊎ ((r ≡ Equal) × (s ≡ Less))
+first_less Less s e = inl refl
+first_less Equal s e = inr (refl, e)
+first_less Greater s e = cc
 
 size_sum : (a b : ℤ) → unsigned_abs (a +ℤ b) ≤ unsigned_abs a + unsigned_abs b
 size_sum a b = omega (arith, ints)
 
-pub pair_join : JoinLaws no_pair more_pair back_pair size_pair
-pair_join = record {
-  assoc = λ x y z. both (omega (arith, ints)) (omega (arith, ints));
-  comm = λ x y. both (omega (arith, ints)) (omega (arith, ints));
-  left = λ x. both (omega (arith, ints)) (omega (arith, ints));
-  undo = λ x. both (omega (arith, ints)) (omega (arith, ints));
+pub number_join : JoinLaws (pos 0) ◌+ℤ◌ neg_ℤ unsigned_abs
+number_join = record {
+  assoc = λ x y z. omega (arith, ints);
+  comm = λ x y. omega (arith, ints);
+  left = λ x. omega (arith, ints);
+  undo = λ x. omega (arith, ints);
   size_neutral = refl;
-  size_joined = λ x y. omega (arith, size_sum x.0 y.0, size_sum x.1 y.1);
+  size_joined = size_sum;
 }
 
-pub pair_order : OrderLaws more_pair below_pair
-pair_order = record {
-  irreflexive = λ x. grind (arith, ints);
-  transitive = λ x y z p q. grind (arith, ints);
-  total = λ x y p q. both (grind (arith, ints)) (grind (arith, ints));
-  kept = λ x y z p. grind (arith, ints);
-}
+module _ {L : Type 0} where
+  both : {a b c d : L} → a ≡ c → b ≡ d → ◌≡◌ {A = L × L} (a, b) (c, d)
+  both p q = cc
+
+  pub pair_join : {neutral : L} {joined : L → L → L} {opposite : L → L} {size : L → ℕ} → JoinLaws neutral joined opposite size → JoinLaws (neutral, neutral) (more_pair joined) (back_pair opposite) (size_pair size)
+  pair_join j = record {
+    assoc = λ x y z. both (j.assoc x.0 y.0 z.0) (j.assoc x.1 y.1 z.1);
+    comm = λ x y. both (j.comm x.0 y.0) (j.comm x.1 y.1);
+    left = λ x. both (j.left x.0) (j.left x.1);
+    undo = λ x. both (j.undo x.0) (j.undo x.1);
+    size_neutral = omega (arith, j.size_neutral);
+    size_joined = λ x y. omega (arith, j.size_joined x.0 y.0, j.size_joined x.1 y.1);
+  }
+
+  module _ {joined : L → L → L} {cmp : L → L → Ordering} (t : IsTotalOrder cmp) (o : OrderLaws joined (comes_before cmp)) where
+    abbrev pair_cmp : L × L → L × L → Ordering
+    pair_cmp x y = ordering_then (cmp x.0 y.0) (cmp x.1 y.1)
+
+    kept : (x y z : L × L) → (cmp x.0 y.0 ≡ Less) ⊎ ((cmp x.0 y.0 ≡ Equal) × (cmp x.1 y.1 ≡ Less)) → pair_cmp (more_pair joined x z) (more_pair joined y z) ≡ Less
+    kept x y z (inl p) = rw (less _ (o.kept x.0 y.0 z.0 (ap is_lt p)))
+    kept x y z (inr (p, q)) =
+        rw (same_of t o x.0 y.0 p, tied_itself t, less _ (o.kept x.1 y.1 z.1 (ap is_lt q)))
+
+    pub pair_order : OrderLaws (more_pair joined) (comes_before pair_cmp)
+    pair_order =
+        order_laws (then_total (on_total (λ x. x.0) t) (on_total (λ x. x.1) t))
+        (λ x y e. let p = both_equal _ _ e in both (same_of t o x.0 y.0 p.0) (same_of t o x.1 y.1 p.1))
+        (λ x y z e. kept x y z (first_less _ _ e))

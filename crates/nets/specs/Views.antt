@@ -1,5 +1,5 @@
 -- The programs' net, link and step, as the rules have them. Assumes nothing.
-use Rattle.std.specs.Prelude.{◌≡◌, ◌≤◌, map, length, take, Some, None, Option}
+use Rattle.std.specs.Prelude.{◌≡◌, ℕ, ◌≤◌, map, length, take, pos, Some, None, Option}
 use Rattle.rules.specs.Net as rules
 use Rattle.rules.specs.Ranges.{InRange, Checked}
 use Rattle.rules.specs.Steps as steps
@@ -37,6 +37,16 @@ of_step (Own i) = steps.own i
 
 abbrev pub step_of : CircuitStep → steps.Step
 step_of s = of_step s.step
+
+-- The number of the step's link or station.
+abbrev pub step_number : Step → ℕ
+step_number (Forward k) = k
+step_number (Back k) = k
+step_number (Own i) = i
+
+-- What stands for a step where a list has none.
+abbrev pub no_step : CircuitStep
+no_step = record { step = Forward 0; length = pos 0 }
 
 -- The tables have their lengths.
 pub record Whole (N : Net) : Type 0 where

@@ -3,15 +3,17 @@
 #![tactic(auto)]
 
 ghost use Rattle.std.specs.Prelude.{◌≡◌, Some, None};
+ghost use Rattle.nets.specs.declared.Step.TheVariants.{Forward};
 
 use std::fmt;
 
 pub mod checked;
+pub mod circuit;
 pub mod sound;
 pub mod timed;
 
 // The stations that a link leads from and to.
-#[derive(Clone, Copy)]
+#[derive(Clone, Copy, Debug, PartialEq, Eq)]
 pub struct LinkEnds {
     pub from: u8,
     pub to: u8,
@@ -19,7 +21,7 @@ pub struct LinkEnds {
 
 // When a firing of `from` ends, `produced` parts arrive on the link; when a firing of `to` begins, `consumed` parts leave it.
 // At tick 0 it holds `stock` parts. Without a capacity it has room for any number.
-#[derive(Clone, Copy)]
+#[derive(Clone, Copy, Debug, PartialEq, Eq)]
 pub struct LinkTerms {
     pub produced: u16,
     pub consumed: u16,
@@ -27,21 +29,22 @@ pub struct LinkTerms {
     pub capacity: Option<u16>,
 }
 
-#[derive(Clone, Copy)]
+#[derive(Clone, Copy, Debug, PartialEq, Eq)]
 pub struct Link {
     pub ends: LinkEnds,
     pub terms: LinkTerms,
 }
 
 // A share lasts `share` ticks and a time unit `unit` ticks, so share / unit is the number of time units for one share.
-#[derive(Clone, Copy)]
+#[derive(Clone, Copy, Debug, PartialEq, Eq)]
 pub struct Pace {
     pub share: u32,
     pub unit: u64,
 }
 
 // The first `stations` durations and rates are the net's. A link number is open where a link stands under it.
-#[derive(Clone, Copy)]
+// Tables with the number of stations beside: a net is Copy, copied whole for each pace, and has no rates until it is rated.
+#[derive(Clone, Copy, Debug, PartialEq, Eq)]
 pub struct Net {
     pub stations: u8,
     pub durations: [u16; 64],
@@ -51,15 +54,24 @@ pub struct Net {
 }
 
 // A link's step forward or back, by the link's number, or a station's own step, by the station's.
-#[derive(Clone, Copy)]
+#[derive(Clone, Copy, Debug, PartialEq, Eq)]
 pub enum Step {
     Forward(u8),
     Back(u8),
     Own(u8),
 }
 
+// What fills the unused places of a list of steps.
+impl Default for Step {
+    ghost is_default = { λ s. s ≡ Forward 0 };
+
+    fn default() -> Step {
+        Step::Forward(0)
+    }
+}
+
 // A step of a circuit, with its length in ticks.
-#[derive(Clone, Copy)]
+#[derive(Clone, Copy, Debug, Default, PartialEq, Eq)]
 pub struct CircuitStep {
     pub step: Step,
     pub length: i64,

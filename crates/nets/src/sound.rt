@@ -1,4 +1,5 @@
-ghost use Rattle.nets.specs.Views.{Good};
+ghost use Rattle.std.specs.Prelude.{◌≡◌};
+ghost use Rattle.nets.specs.Views.{of_net, Good};
 
 use crate::Net;
 
@@ -7,4 +8,20 @@ use crate::Net;
 pub struct SoundNet {
     pub net: Net,
     ghost good: { ∥ Good net ∥₁ },
+}
+
+impl SoundNet {
+    // The durations of its stations.
+    pub fn durations(&self) -> &[u16]
+        ensures { result.now ≡ (of_net self.now.net).durations }
+    {
+        &self.net.durations[..self.net.stations as usize]
+    }
+
+    // The rates of its stations.
+    pub fn rates(&self) -> &[u16]
+        ensures { result.now ≡ (of_net self.now.net).rates }
+    {
+        &self.net.rates[..self.net.stations as usize]
+    }
 }

@@ -1,7 +1,7 @@
 -- What holds of the levels. Assumes nothing.
-use Rattle.std.proofs.Common.{◌≡◌, ℕ, ◌+◌, ◌*◌, ◌<◌, ◌≤◌, Bool, false, ◌≢◌, List, [], ◌∷◌, ◌++◌, length, get_or, set, Some, None, Option, sym, refl, ◌∙◌, subst, ⊎_elim, mul-le-mul_right, arith}
+use Rattle.std.proofs.Common.{◌≡◌, ℕ, ◌+◌, ◌*◌, ◌<◌, ◌≤◌, Bool, false, ◌≢◌, List, [], ◌∷◌, ◌++◌, length, get_or, take, set, replicate, Some, None, Option, sym, refl, ◌∙◌, subst, ⊎_elim, mul-le-mul_right, arith}
 use Rattle.std.proofs.lemmas.Bool.{cases_lt}
-use Rattle.std.proofs.lemmas.List.{get_or_past, get_or-set_same, get_or-set_other, length_push}
+use Rattle.std.proofs.lemmas.List.{get_or_past, get_or-set_same, get_or-set_other, length_push, length-take, length-replicate}
 use Rattle.lengths.specs.Laws.{JoinLaws, OrderLaws}
 use Rattle.search.specs.declared.Edge.{Edge}
 use Rattle.search.specs.Terms.{begins, ends, lasts, Within, EdgeChain, total, LeastStarts}
@@ -128,3 +128,7 @@ module _ {L : Type 0} (neutral : L) (joined : L → L → L) (below : L → L �
       let at = p.1 in
       let in' = (w top.1.0 p.0).1 in
       omega arith
+
+-- the row that is written next is one of those
+pub row_in : {X : Type 0} (rows : List X) (n k : ℕ) (row : X) → length rows ≡ length (take n (replicate 64 row)) → k < length (take n (replicate 64 row)) → (k < length rows) × (k < 64)
+row_in rows n k row e t = (omega arith, omega (arith, length-take n (replicate 64 row), length-replicate 64 row))

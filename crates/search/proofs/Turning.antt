@@ -1,5 +1,6 @@
 -- A circuit from another of its nodes. Assumes nothing.
 use Rattle.std.proofs.Common.{◌≡◌, ℕ, ◌+◌, ◌-◌, ◌<◌, ◌≤◌, Bool, true, List, [], ◌∷◌, ◌++◌, map, length, get_or, take, drop, sym, refl, ap, ◌∙◌, subst, inl, inr, arith}
+use Rattle.std.specs.Prelude.{All}
 use Rattle.std.proofs.lemmas.Bool.{cases_lt, both_ways}
 use Rattle.std.proofs.lemmas.List.{length-append, length-take, length-drop, get_or_append_left, get_or-append_right, get_or-take, get_or-drop, take-append-drop}
 use Rattle.lengths.specs.Laws.{JoinLaws, OrderLaws}
@@ -7,10 +8,14 @@ use Rattle.handover.specs.Once.{Once}
 use Rattle.handover.proofs.Once.{over, is, once_count, count_once}
 use Rattle.search.specs.declared.Edge.{Edge}
 use Rattle.search.specs.Terms.{begins, ends, EdgeChain, total, EdgeCircuit}
-use Rattle.search.specs.Levels.{Rising, LowestAt, turned}
+use Rattle.search.specs.Levels.{Rising, LowestAt}
 use Rattle.search.proofs.Chains.{chain_join, chain_cut, chain_first, total_join}
 use Rattle.search.proofs.Bounds.{shut_along}
 use Rattle.search.proofs.Walking.{chain_in}
+
+-- The list from the place p on, and then what stands before.
+abbrev pub turned : ℕ → List ℕ → List ℕ
+turned p c = drop p c ++ take p c
 
 module _ {L : Type 0} (es : List (Edge L)) where
   over_join : (f : ℕ → ℕ) (a b : List ℕ) → over f (map (ends es) (a ++ b)) ≡ over f (map (ends es) a) + over f (map (ends es) b)
@@ -61,5 +66,5 @@ module _ {L : Type 0} {neutral : L} {joined : L → L → L} {opposite : L → L
   rising_some [] r = absurd (both_ways (below neutral neutral) (o.irreflexive neutral) r.above)
   rising_some (e ∷ c) r = omega arith
 
-  pub rising_known : (c : List ℕ) → Rising neutral joined below es c → (t : ℕ) → t < length c → get_or c t 0 < length es
-  rising_known c r t h = chain_in es r.closed.0 c r.closed.0 t r.closed.1 h
+  pub rising_known : (c : List ℕ) → Rising neutral joined below es c → All (λ e. e < length es) c
+  rising_known c r = chain_in es r.closed.0 c r.closed.0 r.closed.1

@@ -1,20 +1,18 @@
 -- The walk back through the levels: what is walked is a chain that rises above every node it passes, so where it closes it is above neutral. Assumes nothing.
-use Rattle.std.proofs.Common.{◌≡◌, ℕ, zero, suc, ◌+◌, ◌-◌, ◌<◌, ◌≤◌, Bool, true, false, List, [], ◌∷◌, map, length, get_or, take, drop, set, Some, None, Option, sym, refl, ap, ◌∙◌, subst, arith}
-use Rattle.std.proofs.lemmas.List.{length-set, drop-set, get_or-take, get_or-drop, take-take, length-take, length-drop, length-map}
+use Rattle.std.proofs.Common.{◌≡◌, ℕ, zero, suc, ◌+◌, ◌<◌, ◌≤◌, Bool, true, false, List, [], ◌∷◌, ◌++◌, map, length, get_or, take, Some, None, Option, sym, refl, ap, ◌∙◌, subst, arith}
+use Rattle.std.specs.Prelude.{All}
+use Rattle.std.proofs.Math.Seq.{take-append_seam}
+use Rattle.std.proofs.lemmas.List.{length_push, get_or_push, get_or-take, take-take, length-map}
 use Rattle.std.proofs.lemmas.Bool.{both_ways}
 use Rattle.lengths.specs.Laws.{JoinLaws, OrderLaws}
 use Rattle.search.specs.declared.Edge.{Edge}
-use Rattle.search.specs.Terms.{begins, ends, lasts, Within, EdgeChain, total}
+use Rattle.search.specs.Terms.{begins, ends, lasts, Within, Searchable, EdgeChain, total}
 use Rattle.handover.specs.Once.{Absent, Once}
 use Rattle.search.specs.Levels.{Came, Level, History, first, later, Marked, Rising}
 use Rattle.search.proofs.Order.{right, le_lt}
 use Rattle.search.proofs.Stepping.{risen}
 use Rattle.search.proofs.Histories.{came_by}
 use Rattle.handover.proofs.Once.{Below, once_few}
-
--- the edges of path from k to n
-abbrev pub seg : List ℕ → ℕ → ℕ → List ℕ
-seg path k n = take (n - k) (drop k path)
 
 -- Along c, from a length acc on, each node that is come to is come to above what b has for it.
 abbrev pub Above : {L : Type 0} → L → (L → L → L) → (L → L → Bool) → List (Edge L) → List L → L → List ℕ → Type 0
@@ -37,29 +35,13 @@ some_none : (i : ℕ) → ◌≡◌ {A = Option ℕ} (Some i) None → ⊥
 some_none i h = let z : ◌≡◌ {A = ℕ} 0 1 = cc in omega arith
 
 -- ---- lists
-pub seg_none : (path : List ℕ) (n : ℕ) → seg path n n ≡ []
-seg_none path n = let e : n - n ≡ 0 = omega arith in rw e
-
-pub seg_next : (path : List ℕ) (k n e : ℕ) → k < n → n ≤ length path → seg (set path k e) k n ≡ e ∷ seg path (k + 1) n
-seg_next path k n e h m =
-    let in' : k < length path = omega arith in
-    let s : n - k ≡ suc (n - (k + 1)) = omega arith in
-    rw (drop-set path k e in', s)
-
-pub getD_seg : (path : List ℕ) (k n i : ℕ) → k ≤ i → i < n → get_or (seg path k n) (i - k) 0 ≡ get_or path i 0
-getD_seg path k n i h m =
-    let p : i - k < n - k = omega arith in
-    let q : k + (i - k) ≡ i = omega arith in
-    get_or-take (n - k) (drop k path) (i - k) 0 p ∙ get_or-drop k path (i - k) 0 ∙ ap (λ t. get_or path t 0) q
-
-pub take_seg : (path : List ℕ) (k n i : ℕ) → k ≤ i → i < n → take (i + 1 - k) (drop k path) ≡ take (suc (i - k)) (seg path k n)
-take_seg path k n i h m =
-    let e : i + 1 - k ≡ suc (i - k) = omega arith in
-    let l : suc (i - k) ≤ n - k = omega arith in
-    ap (λ t. take t (drop k path)) e ∙ sym (take-take (suc (i - k)) (n - k) (drop k path) l)
-
-pub length_seg : (path : List ℕ) (k n : ℕ) → n ≤ length path → length (seg path k n) ≡ n - k
-length_seg path k n h = simp (length-take, length-drop) (omega arith)
+-- the last of the first rows, and those before it
+pub last_row : {X : Type 0} (rows less all : List X) (row d : X) → rows ≡ less ++ (row ∷ []) → rows ≡ take (length rows) all → (less ≡ take (length less) all) × (row ≡ get_or all (length less) d) × (length rows ≡ length less + 1)
+last_row rows less all row d p q =
+    let long : length rows ≡ length less + 1 = ap length p ∙ length_push less row in
+    let front = sym (take-append_seam less (row ∷ [])) ∙ ap (take (length less)) (sym p ∙ q) ∙ take-take (length less) (length rows) all (omega arith) in
+    let back = sym (get_or_push less row d (length less) refl) ∙ ap (λ r. get_or r (length less) d) (sym p ∙ q) ∙ get_or-take (length rows) all (length less) d (omega arith) in
+    (front, back, long)
 
 pub absent_from : (f : ℕ → ℕ) (x : ℕ) (c : List ℕ) → ((m : ℕ) → m < length c → f (get_or c m 0) ≡ x → ⊥) → Absent x (map f c)
 absent_from f x [] h = tt
@@ -77,10 +59,10 @@ once_take f (suc n) (e ∷ c) p = (absent_take f (f e) n c p.0, once_take f n c 
 
 -- ---- chains
 module _ {L : Type 0} (es : List (Edge L)) where
-  pub chain_in : (x : ℕ) (c : List ℕ) (last m : ℕ) → EdgeChain es x c last → m < length c → get_or c m 0 < length es
-  chain_in x [] last m p h = absurd (let z : m < 0 = h in omega arith)
-  chain_in x (e ∷ c) last zero p h = p.0
-  chain_in x (e ∷ c) last (suc m) p h = chain_in (ends es e) c last m p.2 (omega arith)
+  pub chain_in : (x : ℕ) (c : List ℕ) (last : ℕ) → EdgeChain es x c last → All (λ e. e < length es) c
+  chain_in x [] last p m d h = absurd (let z : m < 0 = h in omega arith)
+  chain_in x (e ∷ c) last p zero d h = p.0
+  chain_in x (e ∷ c) last p (suc m) d h = chain_in (ends es e) c last p.2 m d (omega arith)
 
   chain_take : (x : ℕ) (c : List ℕ) (last m : ℕ) → EdgeChain es x c last → m < length c → EdgeChain es x (take (suc m) c) (ends es (get_or c m 0))
   chain_take x [] last m p h = absurd (let z : m < 0 = h in omega arith)
@@ -178,53 +160,33 @@ module _ {L : Type 0} {neutral : L} {joined : L → L → L} {opposite : L → L
       count = let n = p.count in omega arith;
     }
 
--- ---- the same, of the array that the walk is written into
-module _ {L : Type 0} {neutral : L} {joined : L → L → L} {opposite : L → L} {size : L → ℕ} {below : L → L → Bool} (j : JoinLaws neutral joined opposite size) (o : OrderLaws joined below) (es : List (Edge L)) (vias : List (List (Option ℕ))) (nodes : ℕ) (w : Within nodes es) (few : nodes ≤ 64) (k x : ℕ) (path : List ℕ) (p : Walk neutral joined below es vias nodes k x (seg path k nodes)) (absent : Absent x (map (ends es) (seg path k nodes))) (long : length path ≡ 64) (low : k ≤ nodes) (some : 0 < k) where
-  before : k ≡ (k - 1) + 1
-  before = omega arith
+  -- one turn of the walk, at the last of the rows that are left
+  module _ {largest nodes : ℕ} (s : Searchable neutral size largest nodes es) (vias rows less : List (List (Option ℕ))) (row : List (Option ℕ)) (push : rows ≡ less ++ (row ∷ [])) (front : rows ≡ take (length rows) vias) (x : ℕ) (c : List ℕ) (p : Walk neutral joined below es vias nodes (length rows) x c) where
+    here : (less ≡ take (length less) vias) × (row ≡ get_or vias (length less) []) × (length rows ≡ length less + 1)
+    here = last_row rows less vias row [] push front
 
-  at_before : Walk neutral joined below es vias nodes ((k - 1) + 1) x (seg path ((k - 1) + 1) nodes)
-  at_before = let P : ℕ → Type 0 = λ n. Walk neutral joined below es vias nodes n x (seg path n nodes) in subst P before p
+    at_row : Walk neutral joined below es vias nodes (length less + 1) x c
+    at_row = let P : ℕ → Type 0 = λ k. Walk neutral joined below es vias nodes k x c in subst P here.2 p
 
-  -- the node came by an edge
-  pub marked_at : (get_or (get_or vias (k - 1) []) x None ≡ None) → ⊥
-  marked_at h = let m = p.raised (k - 1) before in let z : ◌≡◌ {A = Option ℕ} (Some m.0) None = sym m.1 ∙ h in some_none m.0 z
+    -- the node came by an edge
+    pub walk_marked : get_or row x None ≡ None → ⊥
+    walk_marked h =
+        let m = p.raised (length less) here.2 in some_none m.0 (sym m.1 ∙ rw (← here.1) h)
 
-  module _ (e : ℕ) (via : get_or (get_or vias (k - 1) []) x None ≡ Some e) where
-    pub edge_in : e < length es
-    edge_in = walk_edge j o es vias nodes w few (k - 1) x _ at_before e via
+    pub walk_node : x < 64
+    walk_node = let n = p.node in let f = s.few in omega arith
 
-    pub next_walk : Walk neutral joined below es vias nodes (k - 1) (begins es e) (seg (set path (k - 1) e) (k - 1) nodes)
-    next_walk =
-        let absent' : Absent x (map (ends es) (seg path ((k - 1) + 1) nodes)) = (let P : ℕ → Type 0 = λ n. Absent x (map (ends es) (seg path n nodes)) in subst P before absent) in
-        rw (seg_next path (k - 1) nodes e (omega arith) (omega arith)) (walk_more j o es vias nodes w few (k - 1) x _ at_before e via absent')
+    -- there is room for one edge more
+    pub walk_room : length c < 64
+    walk_room = let n = p.count in let f = s.few in let l = here.2 in omega arith
 
-    abbrev path' : List ℕ
-    path' = set path (k - 1) e
+    module _ (e : ℕ) (via : get_or row x None ≡ Some e) where
+      via_here : get_or (get_or vias (length less) []) x None ≡ Some e
+      via_here = rw (← here.1) via
 
-    long' : length path' ≡ 64
-    long' = length-set path (k - 1) e ∙ long
+      pub walk_known : e < length es
+      walk_known = walk_edge vias nodes s.inside s.few (length less) x c at_row e via_here
 
-    in_seg : (i : ℕ) → k - 1 ≤ i → i < nodes → i - (k - 1) < length (seg path' (k - 1) nodes)
-    in_seg i a b = let l = length_seg path' (k - 1) nodes (let z = long' in omega arith) in omega arith
-
-    pub known_edges : (i : ℕ) → k - 1 ≤ i → i < nodes → get_or path' i 0 < length es
-    known_edges i a b =
-        let h = chain_in es (begins es e) (seg path' (k - 1) nodes) next_walk.last (i - (k - 1)) next_walk.chain (in_seg i a b) in
-        rw (getD_seg path' (k - 1) nodes i a b) at h
-
-    pub next_absent : ((i : ℕ) → k - 1 ≤ i → i < nodes → ends es (get_or path' i 0) ≡ begins es e → ⊥) → Absent (begins es e) (map (ends es) (seg path' (k - 1) nodes))
-    next_absent h =
-        absent_from (ends es) (begins es e) (seg path' (k - 1) nodes)
-        (λ m in' eq.
-        let l = length_seg path' (k - 1) nodes (let z = long' in omega arith) in
-        let i_low : k - 1 ≤ m + (k - 1) = omega arith in
-        let i_high : m + (k - 1) < nodes = omega arith in
-        let back_m : (m + (k - 1)) - (k - 1) ≡ m = omega arith in
-        let g = getD_seg path' (k - 1) nodes (m + (k - 1)) i_low i_high in
-        h (m + (k - 1)) i_low i_high (ap (ends es) (sym g ∙ ap (λ t. get_or (seg path' (k - 1) nodes) t 0) back_m) ∙ eq))
-
-    pub closes_at : (i : ℕ) → k - 1 ≤ i → i < nodes → ends es (get_or path' i 0) ≡ begins es e → Rising neutral joined below es (take (i + 1 - (k - 1)) (drop (k - 1) path'))
-    closes_at i a b eq =
-        rw (take_seg path' (k - 1) nodes i a b)
-        (walk_closes j o es vias nodes (k - 1) (begins es e) (seg path' (k - 1) nodes) (i - (k - 1)) next_walk (in_seg i a b) (ap (ends es) (getD_seg path' (k - 1) nodes i a b) ∙ eq))
+      pub walk_next : Absent x (map (ends es) c) → (x' : ℕ) (c' : List ℕ) → x' ≡ begins es e → c' ≡ e ∷ c → Walk neutral joined below es vias nodes (length less) x' c'
+      walk_next absent x' c' at is =
+          rw (at, is) (walk_more vias nodes s.inside s.few (length less) x c at_row e via_here absent)

@@ -12,8 +12,9 @@ use Rattle.search.specs.Terms.{begins, ends, lasts, Within, Searchable, EdgeChai
 use Rattle.nets.specs.declared.Step as code
 use Rattle.nets.specs.declared.Step.TheVariants.{Forward}
 use Rattle.nets.specs.Views.{of_step}
-use Rattle.timing.specs.Edges.{edge_of}
+use Rattle.timing.specs.Edges.{edge_of, edges_of}
 use Rattle.timing.specs.Listing.{steps_of}
+use Rattle.timing.proofs.Carried.{all}
 use Rattle.timing.proofs.Listings.{lists_steps}
 
 module _ {L : Type 0} (N : Net) (w : Step → L) where
@@ -32,12 +33,9 @@ module _ {L : Type 0} (N : Net) (w : Step → L) where
   lasts_read neutral (s ∷ ss) zero h = refl
   lasts_read neutral (s ∷ ss) (suc e) h = lasts_read neutral ss e (omega arith)
 
--- The step of an edge's number, and the edges
+-- The step of an edge's number
 abbrev pub step_at : Net → ℕ → Step
 step_at N e = get_or (steps_of N) e (forward 0)
-
-abbrev pub edges_of : {L : Type 0} → Net → (Step → L) → List (Edge L)
-edges_of N w = map (edge_of N w) (steps_of N)
 
 -- The program's list of them, read
 module _ (N : Net) (steps : List code.Step) (q : map of_step steps ≡ steps_of N) where
@@ -52,6 +50,13 @@ module _ (N : Net) (steps : List code.Step) (q : map of_step steps ≡ steps_of 
 
   pub edge_read : {L : Type 0} (w : Step → L) (e : ℕ) (d : Edge L) → e < length steps → edge_of N w (of_step (get_or steps e (Forward 0))) ≡ get_or (edges_of N w) e d
   edge_read w e d h = ap (edge_of N w) (step_read e) ∙ sym (get_or-map (edge_of N w) (steps_of N) e (forward 0) d (omega (arith, as_many)))
+
+-- what the list of a `Steps` carries, where its items were read
+pub listed : (N : Net) (list items : List code.Step) → ∥ map of_step list ≡ steps_of N ∥₁ → items ≡ list → map of_step items ≡ steps_of N
+listed N list items h q = ap (map of_step) q ∙ all (map of_step list) (steps_of N) h
+
+pub held : (N : Net) (list items : List code.Step) → ∥ map of_step list ≡ steps_of N ∥₁ → items ≡ list → (e : ℕ) → e < length items → ∥ Has N (of_step (get_or items e (Forward 0))) ∥₁
+held N list items h q e k = ∣ step_has N items (listed N list items h q) e k ∣₁
 
 module _ {L : Type 0} (N : Net) (w : Step → L) where
   pub many : length (edges_of N w) ≡ length (steps_of N)

@@ -1,3 +1,4 @@
+pub mod Carried
 pub mod Opened
 pub mod Sizes
 pub mod Listings

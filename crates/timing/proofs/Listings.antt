@@ -1,12 +1,13 @@
 -- The list of a net's steps has all of them and no others. Assumes nothing.
-use Rattle.std.proofs.Common.{◌≡◌, ℕ, zero, suc, ◌+◌, ◌<◌, ◌≤◌, List, [], ◌∷◌, ◌++◌, map, length, get_or, take, set, Some, None, Option, sym, refl, ap, ◌∙◌, subst, inl, inr, add-one, arith, length-set}
-use Rattle.std.proofs.lemmas.Bool.{cases_lt}
-use Rattle.std.proofs.lemmas.List.{length-append, get_or_append_left, get_or-append-add, take_more_set, map_push, append_assoc, append-nil}
+use Rattle.std.proofs.Common.{◌≡◌, ℕ, zero, suc, ◌+◌, ◌<◌, ◌≤◌, List, [], ◌∷◌, ◌++◌, map, length, get_or, true, false, Some, None, Option, sym, refl, ap, ◌∙◌, subst, inl, inr, add-one, arith}
+use Rattle.std.specs.Option.{is_some}
+use Rattle.std.proofs.lemmas.Bool.{cases_lt, false≢true, true≢false}
+use Rattle.std.proofs.lemmas.List.{length-append, get_or_append_left, get_or-append-add, map_push, append_assoc, append-nil}
 use Rattle.rules.specs.Net.{Link, Net, stations, Open}
 use Rattle.rules.specs.Steps.{Step, forward, back, own, Has}
 use Rattle.rules.proofs.Tested.{open_below}
 use Rattle.nets.specs.declared.Step as code
-use Rattle.nets.specs.declared.Step.TheVariants.{Forward, Back}
+use Rattle.nets.specs.declared.Step.TheVariants.{Forward, Back, Own}
 use Rattle.nets.specs.Views.{of_step}
 use Rattle.handover.proofs.Options.{none_some}
 use Rattle.timing.specs.Listing.{room_steps, link_steps, links_to, owns_to, steps_of}
@@ -16,42 +17,44 @@ pub record Lists (N : Net) (ss : List Step) : Type 0 where
   pub only : (e : ℕ) → e < length ss → Has N (get_or ss e (forward 0))
   pub all : (s : Step) → Has N s → (e : ℕ) × (e < length ss) × (get_or ss e (forward 0) ≡ s)
 
--- One step more in the code's array
+-- What a turn of the loop over the links appends
 
-pub pushed : (steps : List code.Step) (n : ℕ) (s : code.Step) → n < length steps → map of_step (take (n + 1) (set steps n s)) ≡ map of_step (take n steps) ++ (of_step s ∷ [])
-pushed steps n s h = ap (map of_step) (take_more_set steps n s h) ∙ map_push of_step (take n steps) s
+room_one : (k : ℕ) (o : Option ℕ) → is_some o ≡ true → room_steps k o ≡ back k ∷ []
+room_one k None e = absurd (false≢true e)
+room_one k (Some c) e = refl
+
+room_none : (k : ℕ) (o : Option ℕ) → is_some o ≡ false → room_steps k o ≡ []
+room_none k None e = refl
+room_none k (Some c) e = absurd (true≢false e)
 
 module _ (N : Net) (k : ℕ) where
   next : (o : Option Link) → get_or N.links k None ≡ o → links_to N (k + 1) ≡ links_to N k ++ link_steps k o
   next o e = rw (add-one k, e) refl
 
-  pub next_none : get_or N.links k None ≡ None → links_to N (k + 1) ≡ links_to N k
-  next_none e = next None e ∙ append-nil (links_to N k)
+  module _ (list : List code.Step) (so : map of_step list ≡ links_to N k) where
+    pub turn_none : get_or N.links k None ≡ None → (list' : List code.Step) → list' ≡ list → map of_step list' ≡ links_to N (k + 1)
+    turn_none e list' q = ap (map of_step) q ∙ so ∙ sym (append-nil (links_to N k)) ∙ sym (next None e)
 
-  pub next_one : (l : Link) → get_or N.links k None ≡ Some l → l.c ≡ None → links_to N (k + 1) ≡ links_to N k ++ (forward k ∷ [])
-  next_one l e f = next (Some l) e ∙ ap (λ o. links_to N k ++ (forward k ∷ room_steps k o)) f
+    module _ (l : Link) (e : get_or N.links k None ≡ Some l) where
+      pub turn_one : is_some l.c ≡ false → (list' : List code.Step) → list' ≡ list ++ (Forward k ∷ []) → map of_step list' ≡ links_to N (k + 1)
+      turn_one f list' q =
+          ap (map of_step) q ∙ map_push of_step list (Forward k) ∙ ap (λ xs. xs ++ (forward k ∷ [])) so
+          ∙ ap (λ r. links_to N k ++ (forward k ∷ r)) (sym (room_none k l.c f)) ∙ sym (next (Some l) e)
 
-  pub next_two : (l : Link) (c : ℕ) → get_or N.links k None ≡ Some l → l.c ≡ Some c → links_to N (k + 1) ≡ (links_to N k ++ (forward k ∷ [])) ++ (back k ∷ [])
-  next_two l c e f = next (Some l) e ∙ ap (λ o. links_to N k ++ (forward k ∷ room_steps k o)) f ∙ sym (append_assoc (links_to N k) (forward k ∷ []) (back k ∷ []))
+      pub turn_two : is_some l.c ≡ true → (list' list'' : List code.Step) → list' ≡ list ++ (Forward k ∷ []) → list'' ≡ list' ++ (Back k ∷ []) → map of_step list'' ≡ links_to N (k + 1)
+      turn_two f list' list'' q r =
+          ap (map of_step) (r ∙ ap (λ xs. xs ++ (Back k ∷ [])) q) ∙ map_push of_step (list ++ (Forward k ∷ [])) (Back k)
+          ∙ ap (λ xs. xs ++ (back k ∷ [])) (map_push of_step list (Forward k) ∙ ap (λ xs. xs ++ (forward k ∷ [])) so)
+          ∙ append_assoc (links_to N k) (forward k ∷ []) (back k ∷ [])
+          ∙ ap (λ r. links_to N k ++ (forward k ∷ r)) (sym (room_one k l.c f)) ∙ sym (next (Some l) e)
 
--- A turn of the loop over the links
-
-module _ (N : Net) (k : ℕ) (steps steps' : List code.Step) (n n' : ℕ) (so : map of_step (take n steps) ≡ links_to N k) where
-  pub turn_none : get_or N.links k None ≡ None → steps' ≡ steps → n' ≡ n → map of_step (take n' steps') ≡ links_to N (k + 1)
-  turn_none e es en = (λ x. map of_step (take (en x) (es x))) ∙ so ∙ sym (next_none N k e)
-
-  pub turn_one : n < length steps → (l : Link) → get_or N.links k None ≡ Some l → l.c ≡ None → steps' ≡ set steps n (Forward k) → n' ≡ n + 1 → map of_step (take n' steps') ≡ links_to N (k + 1)
-  turn_one h l e f es en = (λ x. map of_step (take (en x) (es x))) ∙ pushed steps n (Forward k) h ∙ ap (λ xs. xs ++ (forward k ∷ [])) so ∙ sym (next_one N k l e f)
-
-  pub turn_two : n + 1 < length steps → (l : Link) (c : ℕ) → get_or N.links k None ≡ Some l → l.c ≡ Some c → steps' ≡ set (set steps n (Forward k)) (n + 1) (Back k) → n' ≡ n + 1 + 1 → map of_step (take n' steps') ≡ links_to N (k + 1)
-  turn_two h l c e f es en =
-      (λ x. map of_step (take (en x) (es x)))
-      ∙ pushed (set steps n (Forward k)) (n + 1) (Back k) (omega (arith, length-set steps n (Forward k)))
-      ∙ ap (λ xs. xs ++ (back k ∷ [])) (pushed steps n (Forward k) (omega arith) ∙ ap (λ xs. xs ++ (forward k ∷ [])) so)
-      ∙ sym (next_two N k l c e f)
-
-pub next_own : (i : ℕ) → owns_to (i + 1) ≡ owns_to i ++ (own i ∷ [])
-next_own i = rw (add-one i) refl
+pub turn_own : (i : ℕ) (xs : List Step) (list list' : List code.Step) → map of_step list ≡ xs ++ owns_to i → list' ≡ list ++ (Own i ∷ []) → map of_step list' ≡ xs ++ owns_to (i + 1)
+turn_own i xs list list' so q =
+    ap (map of_step) q ∙ map_push of_step list (Own i) ∙ ap (λ ys. ys ++ (own i ∷ [])) so
+    ∙ append_assoc xs (owns_to i) (own i ∷ []) ∙ ap (λ ys. xs ++ ys) (sym (next_own i))
+  where
+    next_own : (i : ℕ) → owns_to (i + 1) ≡ owns_to i ++ (own i ∷ [])
+    next_own i = rw (add-one i) refl
 
 -- Each of a list
 

@@ -8,7 +8,7 @@ use Rattle.handover.proofs.Gcd.{gcd_is}
 use Rattle.handover.proofs.Rates.{gcd_pos}
 use Rattle.rules.specs.Net as rules
 use Rattle.rules.specs.Net.{stations, duration, rate, Open}
-use Rattle.rules.specs.Steps.{forward, back, own, worth, grain, or_else}
+use Rattle.rules.specs.Steps.{Has, forward, back, own, worth, grain, or_else}
 use Rattle.rules.proofs.Tested.{open_below}
 use Rattle.rules.proofs.Links.{link_is}
 use Rattle.handover.proofs.Options.{none_some}
@@ -16,7 +16,7 @@ use Rattle.search.specs.declared.Edge.{Edge}
 use Rattle.nets.specs.declared.Link.{Link}
 use Rattle.nets.specs.declared.Net.{Net}
 use Rattle.nets.specs.Views.{of_link, of_slot, of_net, Good}
-use Rattle.timing.specs.Edges.{Opens, Placed, Known, unit_of, grain_of, between, own_edge_lem, pair_edge}
+use Rattle.timing.specs.Edges.{Opens, Placed, Known, unit_of, grain_of, between, loop_at, edge_in_pairs}
 
 slot_none : (o : Option Link) (l : rules.Link) → of_slot o ≡ Some l → o ≡ None → ⊥
 slot_none None l e f = none_some l e
@@ -34,6 +34,12 @@ module _ (N : Net) (k : ℕ) (o : Opens (of_net N) k) where
 
   pub not_none : get_or N.links k None ≡ None → ⊥
   not_none e = slot_none (get_or N.links k None) o.0 (sym (get_or-map of_slot N.links k None) ∙ o.1) e
+
+-- a step back has a capacity
+pub has_capacity : (N : Net) (k : ℕ) (l : Link) → Open (of_net N) k (of_link l) → Has (of_net N) (back k) → l.terms.capacity ≡ None → ⊥
+has_capacity N k l o (m, c, p, f) e =
+    let q : m ≡ of_link l = cc in
+    none_some c (sym e ∙ ap (λ z. z.c) (sym q) ∙ f)
 
 pub station : (N : Net) (i : ℕ) → i < stations (of_net N) → i < N.stations
 station N i h = omega (arith, length-take N.stations N.durations)
@@ -110,18 +116,18 @@ module _ (N : Net) (k : ℕ) (l : Link) (G : Good N) (o : Open (of_net N) k (of_
       let g = grain_is in
       λ t. record { from = x; to = y; length = (pos (sym r t) -ℤ pos (parts / unit_of l * g t) -ℤ pos (g t), pos (sym d t)) }
 
-  pub forward_is : between N l.ends.from l.ends.to (l.terms.stock / unit_of l * grain_of N l) (grain_of N l) ≡ pair_edge (of_net N) (forward k)
+  pub forward_is : between N l.ends.from l.ends.to (l.terms.stock / unit_of l * grain_of N l) (grain_of N l) ≡ edge_in_pairs (of_net N) (forward k)
   forward_is =
       between_is l.terms.stock l.ends.from l.ends.to from_in to_in
       ∙ sym (ap (λ z. record { from = z.i; to = z.j; length = (pos (rate (of_net N) z.j) -ℤ pos (worth (of_net N) z z.u) -ℤ pos (grain (of_net N) z), pos (duration (of_net N) z.i)) }) (link_is (of_net N) k (of_link l) o))
 
-  pub back_is : (c : ℕ) → l.terms.capacity ≡ Some c → between N l.ends.to l.ends.from ((c - l.terms.stock) / unit_of l * grain_of N l) (grain_of N l) ≡ pair_edge (of_net N) (back k)
+  pub back_is : (c : ℕ) → l.terms.capacity ≡ Some c → between N l.ends.to l.ends.from ((c - l.terms.stock) / unit_of l * grain_of N l) (grain_of N l) ≡ edge_in_pairs (of_net N) (back k)
   back_is c f =
       between_is (c - l.terms.stock) l.ends.to l.ends.from to_in from_in
       ∙ sym (ap (λ z. by_link (or_else 0 z - l.terms.stock) l.ends.to l.ends.from) f)
       ∙ sym (ap (λ z. record { from = z.j; to = z.i; length = (pos (rate (of_net N) z.i) -ℤ pos (worth (of_net N) z (or_else 0 z.c - z.u)) -ℤ pos (grain (of_net N) z), pos (duration (of_net N) z.j)) }) (link_is (of_net N) k (of_link l) o))
 
-pub own_is : (N : Net) (i : ℕ) → i < stations (of_net N) → own_edge_lem N i ≡ pair_edge (of_net N) (own i)
+pub own_is : (N : Net) (i : ℕ) → i < stations (of_net N) → loop_at N i ≡ edge_in_pairs (of_net N) (own i)
 own_is N i h =
     let r = rate_read N i (station N i h) in
     let d = duration_read N i (station N i h) in

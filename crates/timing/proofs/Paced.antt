@@ -1,8 +1,10 @@
 -- Paces of a good net, from the first one up to the fastest. Assumes nothing.
-use Rattle.std.proofs.Common.{◌≡◌, ℕ, ◌+◌, ◌-◌, ◌*◌, ◌/◌, ◌<◌, ◌≤◌, [], ◌∷◌, get_or, pos, neg_ℤ, sym, refl, ap, ◌∙◌, subst, inl, inr, add-zero, mul-le-mul_left, div-le_self, arith}
+use Rattle.std.proofs.Common.{◌≡◌, ℕ, ◌+◌, ◌-◌, ◌*◌, ◌/◌, ◌<◌, ◌≤◌, List, [], ◌∷◌, length, get_or, drop, Some, None, Option, MatchOption, Bor, pos, neg_ℤ, sym, refl, ap, ◌∙◌, subst, inl, inr, add-zero, mul-le-mul_left, div-le_self, arith}
+use Rattle.std.specs.Option.{IsSomeAnd, option_copied}
 use native.Mathlib.Nat.{le_of_mul-le-mul_left}
 use lib.IntN.{+ℤ_idr}
 use Rattle.std.proofs.lemmas.Bool.{cases_lt}
+use Rattle.std.proofs.lemmas.List.{length-drop, drop_more}
 use Rattle.handover.specs.Gcd.{gcd}
 use Rattle.handover.proofs.Gcd.{gcd_is}
 use Rattle.handover.proofs.Rates.{whole_left, whole_right, gcd_pos, parts_coprime}
@@ -14,11 +16,11 @@ use Rattle.rules.proofs.Paces.{sound_at, circuit_at, shares_of_at, time_of_at, p
 use Rattle.rules.proofs.Fastest.{rises, in_lowest}
 use Rattle.nets.specs.declared.Net.{Net}
 use Rattle.nets.specs.declared.Pace.{Pace}
+use Rattle.nets.specs.declared.sound.SoundNet.{SoundNet}
 use Rattle.nets.specs.Views.{of_net, Good}
 use Rattle.timing.specs.declared.Raised.{Raised}
 use Rattle.timing.specs.declared.Raised.TheVariants.{Enough, To, Never}
 use Rattle.timing.specs.Pacing.{with_pace, PaceInRange, Raises, Named, FirstPace, lowest_terms, FastestPace}
-use Rattle.timing.proofs.Opened.{station, stations_are, rate_read, duration_read}
 
 -- A good net is good at every pace that a net can have
 pub good_at : (N : Net) → Good N → (p : Pace) → PaceInRange p → Good (with_pace N p)
@@ -46,51 +48,79 @@ module _ (N : Net) (A B : ℕ) where
         unit = n.unit;
       }
 
-  pub raises_back : (p : Pace) (r : Raised) → Raises (at_pace_lem (of_net N) A B) p r → Raises (of_net N) p r
+  raises_back : (p : Pace) (r : Raised) → Raises (at_pace_lem (of_net N) A B) p r → Raises (of_net N) p r
   raises_back p Enough h = h
   raises_back p (To q) h = (named_back q h.0, h.1)
   raises_back p Never h = h
 
+pub raises_at : (N : Net) (p : Pace) (at : Net) → at ≡ with_pace N p → (r : Raised) → Raises (of_net at) at.pace r → Raises (of_net N) p r
+raises_at N p at q r h = raises_back N p.share p.unit p r (subst (λ (z : Net). Raises (of_net z) z.pace r) q h)
+
+-- A round at another pace, where that can be had
+pub raised : (N : Net) (p : Pace) (at : Option SoundNet) (behind : Option (Bor SoundNet)) → option_copied behind ≡ at → (x : Option Raised)
+    → MatchOption at (PaceInRange p → ⊥) (λ s. PaceInRange p × (s.net ≡ with_pace N p)) → MatchOption behind (x ≡ None) (λ s. IsSomeAnd x (Raises (of_net s.now.net) s.now.net.pace))
+    → MatchOption x (PaceInRange p → ⊥) (λ r. PaceInRange p × Raises (of_net N) p r)
+raised N p at None e x a q =
+    subst (λ z. MatchOption z (PaceInRange p → ⊥) (λ r. PaceInRange p × Raises (of_net N) p r)) (sym q)
+    (subst (λ z. MatchOption z (PaceInRange p → ⊥) (λ s. PaceInRange p × (s.net ≡ with_pace N p))) (sym e) a)
+raised N p at (Some s) e None a q = absurd q
+raised N p at (Some s) e (Some r) a q =
+    let b = subst (λ z. MatchOption z (PaceInRange p → ⊥) (λ s. PaceInRange p × (s.net ≡ with_pace N p))) (sym e) a in
+    (b.0, raises_at N p s.now.net b.1 r q)
+
 -- The greatest of the stations' own paces
+
+-- the pace of a station that none of the first n stations' passes
+pub record Slowest (N : rules.Net) (n : ℕ) (p : ℕ × ℕ) : Type 0 where
+  pub station : ℕ
+  pub inside : station < stations N
+  pub share : p.0 ≡ rules.duration N station
+  pub unit : p.1 ≡ rules.rate N station
+  pub greatest : (j : ℕ) → j < n → rules.duration N j * p.1 ≤ p.0 * rules.rate N j
 
 passes : (dj rj d r di ri : ℕ) → 1 ≤ r → dj * r ≤ d * rj → d * ri < di * r → dj * ri ≤ di * rj
 passes dj rj d r di ri h k l = le_of_mul-le-mul_left {k = r} (omega (arith, mul-le-mul_left ri k, mul-le-mul_left rj l)) h
 
-module _ (N : Net) (G : Good N) where
-  abbrev Passed : ℕ → ℕ → Type 0
-  Passed best n = (j : ℕ) → j < n → get_or N.durations j 0 * get_or N.rates best 0 ≤ get_or N.durations best 0 * get_or N.rates j 0
-
-  rate_some : (i : ℕ) → i < N.stations → 1 ≤ get_or N.rates i 0
-  rate_some i h = omega (arith, rate_read N i h, G.sound.recurring i (omega (arith, stations_are N G)))
-
-  pub slower_found : (best i best' : ℕ) → best < N.stations → Passed best i → get_or N.durations best 0 * get_or N.rates i 0 < get_or N.durations i 0 * get_or N.rates best 0 → best' ≡ i → Passed best' (i + 1)
-  slower_found best i best' hb p l e =
-      subst (λ z. Passed z (i + 1)) (sym e) (λ j h.
-      elim (cases_lt j i) [
-        | inl k ↦ passes (get_or N.durations j 0) (get_or N.rates j 0) (get_or N.durations best 0) (get_or N.rates best 0) (get_or N.durations i 0) (get_or N.rates i 0) (rate_some best hb) (p j k) l
-        | inr k ↦ (let f : j ≡ i = omega arith in omega (arith, ap (λ z. get_or N.durations z 0 * get_or N.rates i 0) f, ap (λ z. get_or N.durations i 0 * get_or N.rates z 0) f))
-      ])
-
-  pub none_slower : (best i best' : ℕ) → Passed best i → get_or N.durations i 0 * get_or N.rates best 0 ≤ get_or N.durations best 0 * get_or N.rates i 0 → best' ≡ best → Passed best' (i + 1)
-  none_slower best i best' p l e =
-      subst (λ z. Passed z (i + 1)) (sym e) (λ j h.
-      elim (cases_lt j i) [
-        | inl k ↦ p j k
-        | inr k ↦ (let f : j ≡ i = omega arith in omega (arith, ap (λ z. get_or N.durations z 0 * get_or N.rates best 0) f, ap (λ z. get_or N.durations best 0 * get_or N.rates z 0) f))
-      ])
-
-  pub first_is : (best n : ℕ) → best < N.stations → N.stations ≤ n → Passed best n → FirstPace (of_net N) (record { share = get_or N.durations best 0; unit = get_or N.rates best 0 })
-  first_is best n h k p =
+module _ (N : rules.Net) (S : rules.Sound N) (n : ℕ) (p : ℕ × ℕ) (s : Slowest N n p) (d r : ℕ) (here : n < stations N) (hd : d ≡ rules.duration N n) (hr : r ≡ rules.rate N n) where
+  pub slower_found : p.0 * r < d * p.1 → Slowest N (n + 1) (d, r)
+  slower_found l =
       record {
-        station = best;
-        inside = omega (arith, stations_are N G);
-        share = sym (duration_read N best h);
-        unit = sym (rate_read N best h);
-        greatest = λ i l. (
-            let g = station N i l in
-            omega (arith, p i (omega arith), ap (λ z. z * get_or N.rates best 0) (duration_read N i g), ap (λ z. get_or N.durations best 0 * z) (rate_read N i g)));
+        station = n;
+        inside = here;
+        share = hd;
+        unit = hr;
+        greatest = λ j h.
+            elim (cases_lt j n) [
+              | inl k ↦ passes (rules.duration N j) (rules.rate N j) p.0 p.1 d r (omega (arith, s.unit, S.recurring s.station s.inside)) (s.greatest j k) l
+              | inr k ↦ (let f : j ≡ n = omega arith in omega (arith, ap (λ z. z * r) (ap (rules.duration N) f ∙ sym hd), ap (λ z. d * z) (ap (rules.rate N) f ∙ sym hr)))
+            ];
       }
 
+  pub none_slower : d * p.1 ≤ p.0 * r → Slowest N (n + 1) p
+  none_slower l =
+      record {
+        station = s.station;
+        inside = s.inside;
+        share = s.share;
+        unit = s.unit;
+        greatest = λ j h.
+            elim (cases_lt j n) [
+              | inl k ↦ s.greatest j k
+              | inr k ↦ (let f : j ≡ n = omega arith in omega (arith, ap (λ z. z * p.1) (ap (rules.duration N) f ∙ sym hd), ap (λ z. p.0 * z) (ap (rules.rate N) f ∙ sym hr)))
+            ];
+      }
+
+-- what a list has at k, where its rest from there is known
+pub front_of : (xs : List ℕ) (k x : ℕ) (rest : List ℕ) → drop k xs ≡ x ∷ rest → (k < length xs) × (x ≡ get_or xs k 0) × (rest ≡ drop (k + 1) xs)
+front_of xs k x rest e =
+    let h : k < length xs = omega (arith, ap length e, length-drop k xs) in
+    let d = drop_more xs k 0 h in
+    (h, cc, cc)
+
+pub first_is : (N : rules.Net) (n : ℕ) (p : ℕ × ℕ) → Slowest N n p → stations N ≤ n → FirstPace N (record { share = p.0; unit = p.1 })
+first_is N n p s h = record { station = s.station; inside = s.inside; share = s.share; unit = s.unit; greatest = λ i l. s.greatest i (omega arith) }
+
+module _ (N : Net) (G : Good N) where
   -- a station's own step is a circuit
   pub own_named : (p : Pace) → FirstPace (of_net N) p → Named (of_net N) p
   own_named p F =

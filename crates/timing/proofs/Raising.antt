@@ -19,24 +19,27 @@ use Rattle.rules.proofs.Turned.{shares_join, time_join}
 use Rattle.lengths.specs.Models.{more_pair, size_pair}
 use Rattle.search.specs.declared.Edge.{Edge}
 use Rattle.nets.specs.declared.Net.{Net}
-use Rattle.nets.specs.Views.{of_net, of_step, step_of, Good}
-use Rattle.timing.specs.declared.Starts.{Starts}
-use Rattle.timing.specs.declared.Circuit.{Circuit}
-use Rattle.timing.specs.Edges.{pair, pair_edge}
-use Rattle.timing.specs.Timing.{Timed, Refused, unused}
+use Rattle.nets.specs.declared.CircuitStep.{CircuitStep}
+use Rattle.nets.specs.declared.circuit.Circuit.{Circuit}
+use Rattle.nets.specs.declared.sound.SoundNet.{SoundNet}
+use Rattle.nets.specs.declared.timed.TimedNet.{TimedNet}
+use Rattle.nets.specs.Views.{of_net, of_step, step_of, no_step, Good}
+use Rattle.nets.proofs.Alone.{least}
+use Rattle.timing.specs.Edges.{pair, edge_in_pairs}
+use Rattle.timing.specs.Timing.{Timed, Refused}
 use Rattle.timing.specs.declared.Raised.TheVariants.{To, Never}
 use Rattle.timing.specs.Pacing.{Named, named_by, pair_of, Raises}
 use Rattle.timing.proofs.Orders.{less, no_less}
 
 -- The pair of a chain, step by step
 
-pair_push : (N : rules.Net) (ks : List Step) (s : Step) → pair_of N (ks ++ (s ∷ [])) ≡ more_pair (pair_of N ks) (pair N s)
+pair_push : (N : rules.Net) (ks : List Step) (s : Step) → pair_of N (ks ++ (s ∷ [])) ≡ (more_pair ◌+ℤ◌) (pair_of N ks) (pair N s)
 pair_push N ks s =
     let a : shares_of N (ks ++ (s ∷ [])) ≡ shares_of N ks +ℤ shares N s = shares_join N ks (s ∷ []) ∙ ap (λ z. shares_of N ks +ℤ z) (+ℤ_idr (shares N s)) in
     let b : time_of N (ks ++ (s ∷ [])) ≡ time_of N ks + time N s = omega (arith, time_join N ks (s ∷ [])) in
     λ x. (a x, pos (b x))
 
-pair_sized : (N : rules.Net) → Sound N → InRange N → (ks : List Step) → ((e : ℕ) → e < length ks → Has N (get_or ks e (forward 0))) → size_pair (pair_of N ks) ≤ length ks * 100_000_000
+pair_sized : (N : rules.Net) → Sound N → InRange N → (ks : List Step) → ((e : ℕ) → e < length ks → Has N (get_or ks e (forward 0))) → (size_pair nat_abs) (pair_of N ks) ≤ length ks * 100_000_000
 pair_sized N S R [] h = omega arith
 pair_sized N S R (s ∷ ks) h =
     let z = steps_sized_lem N S R s (h 0 (omega arith)) in
@@ -47,46 +50,59 @@ module _ (N : Net) (G : Good N) (c : Circuit) (R : Refused N c) where
   abbrev M : rules.Net
   M = of_net N
 
+  abbrev cs : List CircuitStep
+  cs = c.steps.items
+
   abbrev ks : List Step
-  ks = map step_of (take c.count c.steps)
+  ks = map step_of cs
 
-  ks_long : length ks ≡ c.count
-  ks_long = length-map (take c.count c.steps) step_of ∙ length-take-le c.count c.steps (omega (arith, R.long, R.few))
+  ks_long : length ks ≡ length cs
+  ks_long = length-map cs step_of
 
-  has : (t : ℕ) → t < c.count → Has M (get_or (map step_of c.steps) t (forward 0))
+  has : (t : ℕ) → t < length cs → Has M (get_or (map step_of cs) t (forward 0))
   has t h =
       let C = R.told.circuit.closed in
-      subst (Has M) (ap (λ z. get_or z t (forward 0)) (sym (take-map step_of c.count c.steps)) ∙ get_or-take c.count (map step_of c.steps) t (forward 0) h)
-      (chain_has M ks C.0 C.0 C.1 t (omega (arith, ks_long)))
+      chain_has M ks C.0 C.0 C.1 t (omega (arith, ks_long))
 
-  pub step_has : (t : ℕ) → t < c.count → Has M (of_step (get_or c.steps t unused).step)
-  step_has t h = subst (Has M) (get_or-map step_of c.steps t unused) (has t h)
+  step_has : (t : ℕ) → t < length cs → Has M (of_step (get_or cs t no_step).step)
+  step_has t h = subst (Has M) (get_or-map step_of cs t no_step) (has t h)
 
-  -- the sum of the first t of them
-  module _ (t : ℕ) (h : t < c.count) (sum : ℤ × ℤ) (so : sum ≡ pair_of M (map step_of (take t c.steps))) (e : Edge (ℤ × ℤ)) (ee : e ≡ pair_edge M (of_step (get_or c.steps t unused).step)) where
-    abbrev fs : List Step
-    fs = map step_of (take t c.steps)
+  -- the steps, as they were read
+  module _ (items : List CircuitStep) (q : items ≡ cs) where
+    pub step_held : (t : ℕ) → t < length items → ∥ Has M (of_step (get_or items t no_step).step) ∥₁
+    step_held t h = ∣ subst (λ xs. Has M (of_step (get_or xs t no_step).step)) (sym q) (step_has t (omega (arith, ap length q))) ∣₁
 
-    fs_long : length fs ≡ t
-    fs_long = length-map (take t c.steps) step_of ∙ length-take-le t c.steps (omega (arith, R.long, R.few))
+    -- the sum of the first t of them
+    module _ (t : ℕ) (h : t < length items) (sum : ℤ × ℤ) (so : sum ≡ pair_of M (map step_of (take t cs))) (e : Edge (ℤ × ℤ)) (read : e ≡ edge_in_pairs M (of_step (get_or items t no_step).step)) where
+      ee : e ≡ edge_in_pairs M (of_step (get_or cs t no_step).step)
+      ee = read ∙ ap (λ xs. edge_in_pairs M (of_step (get_or xs t no_step).step)) q
 
-    fs_has : (i : ℕ) → i < length fs → Has M (get_or fs i (forward 0))
-    fs_has i k =
-        let g : i < t = omega (arith, fs_long) in
-        subst (Has M) (sym (ap (λ z. get_or z i (forward 0)) (sym (take-map step_of t c.steps)) ∙ get_or-take t (map step_of c.steps) i (forward 0) g)) (has i (omega arith))
+      inside : t < length cs
+      inside = omega (arith, ap length q)
 
-    pub join_room : size_pair sum + size_pair e.length ≤ 0x7fff_ffff_ffff_ffff
-    join_room =
-        let z = pair_sized M G.sound G.range fs fs_has in
-        let y = steps_sized_lem M G.sound G.range (of_step (get_or c.steps t unused).step) (step_has t h) in
-        omega (arith, fs_long, R.few, y.shares, y.time, ap size_pair so, ap (λ (x : Edge (ℤ × ℤ)). size_pair x.length) ee)
+      abbrev fs : List Step
+      fs = map step_of (take t cs)
 
-    pub join_more : more_pair sum e.length ≡ pair_of M (map step_of (take (t + 1) c.steps))
-    join_more =
-        let l = ap (λ (z : Edge (ℤ × ℤ)). z.length) ee in
-        (λ x. more_pair (so x) (l x))
-        ∙ sym (pair_push M fs (of_step (get_or c.steps t unused).step))
-        ∙ ap (pair_of M) (sym (map_more step_of c.steps t unused (omega (arith, R.long, R.few))))
+      fs_long : length fs ≡ t
+      fs_long = length-map (take t cs) step_of ∙ length-take-le t cs (omega (arith, inside))
+
+      fs_has : (i : ℕ) → i < length fs → Has M (get_or fs i (forward 0))
+      fs_has i k =
+          let g : i < t = omega (arith, fs_long) in
+          subst (Has M) (sym (ap (λ z. get_or z i (forward 0)) (sym (take-map step_of t cs)) ∙ get_or-take t (map step_of cs) i (forward 0) g)) (has i (omega (arith, inside)))
+
+      pub join_room : (size_pair nat_abs) sum + (size_pair nat_abs) e.length ≤ 0x7fff_ffff_ffff_ffff
+      join_room =
+          let z = pair_sized M G.sound G.range fs fs_has in
+          let y = steps_sized_lem M G.sound G.range (of_step (get_or cs t no_step).step) (step_has t inside) in
+          omega (arith, fs_long, inside, R.few, y.shares, y.time, ap (size_pair nat_abs) so, ap (λ (x : Edge (ℤ × ℤ)). (size_pair nat_abs) x.length) ee)
+
+      pub join_more : (more_pair ◌+ℤ◌) sum e.length ≡ pair_of M (map step_of (take (t + 1) cs))
+      join_more =
+          let l = ap (λ (z : Edge (ℤ × ℤ)). z.length) ee in
+          (λ x. (more_pair ◌+ℤ◌) (so x) (l x))
+          ∙ sym (pair_push M fs (of_step (get_or cs t no_step).step))
+          ∙ ap (pair_of M) (sym (map_more step_of cs t no_step inside))
 
   sized : Sized (shares_of M ks) (time_of M ks) (ticks_of M ks) (length ks)
   sized = let C = R.told.circuit.closed in chains_sized_lem M G.sound G.range C.0 C.0 ks C.1
@@ -138,5 +154,7 @@ module _ (N : Net) (G : Good N) (c : Circuit) (R : Refused N c) where
   pub raises : Raises M N.pace (named_by (pair_of M ks))
   raises = by_test (lt_z (shares_of M ks) (pos 0)) refl
 
-pub enough : (N : Net) (s : Starts) → Timed N s → HasTimetable (of_net N)
-enough N s T = (record { scale = 1; starts = take N.stations s.ticks }, T.least.fits, T.least.keeps)
+pub enough : (net : SoundNet) (t : TimedNet) → Timed net t → HasTimetable (of_net net.net)
+enough net t T =
+    let l = least (of_net t.net.net) (take t.net.net.stations t.starts) t.least in
+    subst (λ (z : SoundNet). HasTimetable (of_net z.net)) T.its_net (record { scale = 1; starts = take t.net.net.stations t.starts }, l.fits, l.keeps)

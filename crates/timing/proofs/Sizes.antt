@@ -11,7 +11,7 @@ use Rattle.lengths.specs.Models.{of_ticks}
 use Rattle.search.specs.declared.Edge.{Edge}
 use Rattle.nets.specs.declared.Net.{Net}
 use Rattle.nets.specs.Views.{of_net, Good}
-use Rattle.timing.specs.Edges.{pair_edge, tick_edge}
+use Rattle.timing.specs.Edges.{edge_in_pairs, edge_in_ticks}
 use Rattle.timing.proofs.Opened.{station, duration_read}
 
 product_small : (a : ℕ) (s : ℤ) → a ≤ 1_000_000 → nat_abs s ≤ 100_000_000 → nat_abs (pos a *ℤ s) ≤ 100_000_000_000_000
@@ -20,7 +20,7 @@ product_small a (negsuc n) h k =
     let p : a * suc n ≤ 1_000_000 * 100_000_000 = mul-le-mul h k in
     omega (arith, abs_is (neg_ℤ (pos (a * suc n))), neg_is (pos (a * suc n)))
 
-module _ (N : Net) (G : Good N) (s : Step) (h : Has (of_net N) s) (e : Edge (ℤ × ℤ)) (p : e ≡ pair_edge (of_net N) s) where
+module _ (N : Net) (G : Good N) (s : Step) (h : Has (of_net N) s) (e : Edge (ℤ × ℤ)) (p : e ≡ edge_in_pairs (of_net N) s) where
   from_in : e.from < N.stations
   from_in = omega (arith, station N (leads_from (of_net N) s) (from_inside (of_net N) G.sound s h), ap (λ (z : Edge (ℤ × ℤ)). z.from) p)
 
@@ -51,5 +51,5 @@ module _ (N : Net) (G : Good N) (s : Step) (h : Has (of_net N) s) (e : Edge (ℤ
   pub ticks_are : pos (N.pace.unit * get_or N.durations e.from 0) +ℤ pos N.pace.share *ℤ to_z w64 (of_z w64 e.length.0) ≡ ticks (of_net N) s
   ticks_are = let q = kept ∙ shares_is in λ x. pos (N.pace.unit * time_is x) +ℤ pos N.pace.share *ℤ q x
 
-  pub tick_edge_is : (t : ℤ) → t ≡ ticks (of_net N) s → ◌≡◌ {A = Edge Ticks} (record { from = e.from; to = e.to; length = of_ticks t }) (tick_edge (of_net N) s)
+  pub tick_edge_is : (t : ℤ) → t ≡ ticks (of_net N) s → ◌≡◌ {A = Edge Ticks} (record { from = e.from; to = e.to; length = of_ticks t }) (edge_in_ticks (of_net N) s)
   tick_edge_is t q = λ x. record { from = (p x).from; to = (p x).to; length = of_ticks (q x) }

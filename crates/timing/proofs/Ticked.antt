@@ -14,9 +14,9 @@ use Rattle.lengths.specs.declared.Ticks.{Ticks}
 use Rattle.lengths.specs.Models.{of_ticks, no_ticks, more_ticks, below_ticks}
 use Rattle.search.specs.declared.Edge.{Edge}
 use Rattle.search.specs.Terms.{ends, EdgeChain, total, LeastStarts, EdgeCircuit}
-use Rattle.timing.specs.Edges.{in_ticks}
+use Rattle.timing.specs.Edges.{edges_of, in_ticks}
 use Rattle.timing.proofs.Orders.{less, no_less}
-use Rattle.timing.proofs.Bridge.{step_at, edges_of, begins_at, ends_at, lasts_at, has_at, number, chain_as}
+use Rattle.timing.proofs.Bridge.{step_at, begins_at, ends_at, lasts_at, has_at, number, chain_as}
 
 module _ (N : Net) where
   abbrev es : List (Edge Ticks)

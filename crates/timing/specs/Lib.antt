@@ -1,4 +1,4 @@
-pub mod Edges
 pub mod Listing
+pub mod Edges
 pub mod Timing
 pub mod Pacing

@@ -1,27 +1,27 @@
 -- What is answered of a net: its least timetable, or a circuit that leaves it none. Assumes nothing.
-use Rattle.std.specs.Prelude.{◌≡◌, ℕ, ◌<◌, ◌≤◌, List, map, length, get_or, take, pos, ◌<ℤ◌, slice_index, slice_index_or, unsigned_abs}
+use Rattle.std.specs.Prelude.{◌≡◌, ℕ, ◌<◌, ◌≤◌, List, map, length, pos, ◌<ℤ◌, slice_index, slice_index_or, unsigned_abs}
+use Rattle.arrayvec.specs.ArrayVec.{array_vec_len}
 use Rattle.rules.specs.Net as rules
-use Rattle.rules.specs.Rules.{Least, NoTimetable}
+use Rattle.rules.specs.Rules.{NoTimetable}
 use Rattle.rules.specs.Steps.{Circuit as Closed, leads_from, ticks, ticks_of}
 use Rattle.lengths.specs.declared.Ticks.{Ticks}
 use Rattle.nets.specs.declared.Net.{Net}
+use Rattle.nets.specs.declared.sound.SoundNet.{SoundNet}
+use Rattle.nets.specs.declared.timed.TimedNet.{TimedNet}
+use Rattle.nets.specs.declared.circuit.Circuit.{Circuit}
 use Rattle.nets.specs.declared.Step as program
-use Rattle.nets.specs.declared.Step.TheVariants.{Forward}
 use Rattle.nets.specs.declared.CircuitStep.{CircuitStep}
-use Rattle.nets.specs.Views.{of_net, of_step, step_of}
-use Rattle.timing.specs.declared.Starts.{Starts}
-use Rattle.timing.specs.declared.Circuit.{Circuit}
+use Rattle.nets.specs.Views.{of_net, of_step, step_of, no_step}
 
 -- A start, of a length in ticks that is not below 0.
 abbrev pub start_of : Ticks → ℕ
 start_of t = unsigned_abs t.ticks
 
--- The first starts are the least timetable of the net, and past the last station there are zeros; no start is above 10^16 ticks.
-pub record Timed (N : Net) (s : Starts) : Type 0 where
-  pub long : length s.ticks ≡ 64
-  pub least : Least (of_net N) (take N.stations s.ticks)
-  pub rest : (y : ℕ) → N.stations ≤ y → slice_index s.ticks y ≡ 0
-  pub starts_sized : (y : ℕ) → slice_index s.ticks y < 10_000_000_000_000_000
+-- The timetable is of this net; past the last station its starts are zeros, and no start is above 10^16 ticks. That they are least, its type says.
+pub record Timed (net : SoundNet) (t : TimedNet) : Type 0 where
+  pub its_net : t.net ≡ net
+  pub rest : (y : ℕ) → net.net.stations ≤ y → slice_index t.starts y ≡ 0
+  pub starts_sized : (y : ℕ) → slice_index t.starts y < 10_000_000_000_000_000
 
 -- x is none above any of the numbers.
 abbrev pub Lowest : ℕ → List ℕ → Type 0
@@ -35,17 +35,12 @@ pub record Told (N : rules.Net) (cs : List CircuitStep) : Type 0 where
   pub lowest : Lowest circuit.closed.0 (map (leads_from N) (map step_of cs))
   pub none : NoTimetable N
 
--- A step of a circuit that is told, and what stands where there is none.
+-- A step of a circuit that is told.
 abbrev pub told_step : rules.Net → program.Step → CircuitStep
 told_step N s = record { step = s; length = ticks N (of_step s) }
 
-abbrev pub unused : CircuitStep
-unused = record { step = Forward 0; length = pos 0 }
-
--- A circuit is told by the first steps, and behind it there is nothing; no length is above 10^16 ticks in size.
+-- A circuit of the net is told; no length is above 10^16 ticks in size.
 pub record Refused (N : Net) (c : Circuit) : Type 0 where
-  pub long : length c.steps ≡ 64
-  pub few : c.count ≤ 64
-  pub told : Told (of_net N) (take c.count c.steps)
-  pub rest : (t : ℕ) → c.count ≤ t → slice_index_or c.steps t unused ≡ unused
-  pub lengths_sized : (t : ℕ) → unsigned_abs (get_or c.steps t unused).length ≤ 10_000_000_000_000_000
+  pub few : array_vec_len c.steps ≤ 64
+  pub told : Told (of_net N) c.steps.items
+  pub lengths_sized : (t : ℕ) → unsigned_abs (slice_index_or c.steps.items t no_step).length ≤ 10_000_000_000_000_000

@@ -1,65 +1,44 @@
 // Rounds of raising the pace of a net up to its fastest.
-ghost use Rattle.std.specs.Prelude.{◌≡◌, ◌*◌, ◌/◌, ◌<◌, ◌≤◌, true, false, map, length, take, MatchOption, unsigned_abs};
+ghost use Rattle.std.specs.Prelude.{◌≡◌, ◌*◌, ◌/◌, ◌<◌, ◌≤◌, true, false, map, MatchOption, unsigned_abs};
 ghost use Rattle.handover.specs.Gcd.{gcd};
 ghost use Rattle.rules.specs.Rules.{SomePace, NoPace};
 ghost use Rattle.rules.specs.Steps.{PairCircuit};
-ghost use Rattle.nets.specs.Views.{of_net, of_step, step_of, Good};
-ghost use Rattle.timing.specs.Listing.{steps_of};
+ghost use Rattle.nets.specs.Views.{of_net, step_of};
 ghost use Rattle.timing.specs.Timing.{Refused};
 ghost use Rattle.timing.specs.Pacing.{pair_of, named_by, Raises, FirstPace, lowest_terms, FastestPace};
 
-use crate::edges::search_steps;
+use crate::list::{Steps, edge_memory};
 use crate::solve::solve_net;
-use crate::steps::{list_steps, step_edge};
-use crate::{Circuit, Raised};
+use crate::steps::NetStep;
+use crate::{Raised, repaced};
 use handover::common_divisor;
 use lengths::Joining;
-use nets::{Net, Pace, Step};
-use search::{Edge, Outcome};
-
-// Whether a circuit's pair is above (0, 0), by the list of steps. What `edges` holds does not matter.
-fn search_pairs(net: &Net, steps: &[Step], edges: &mut [Edge<(i64, i64)>]) -> bool
-    requires good { Good net.now }
-    requires all { map of_step steps.now ≡ steps_of (of_net net.now) }
-    requires room { length edges.old ≡ length steps.now }
-    ensures above { result ≡ true → PairCircuit (of_net net.now) }
-    ensures allows { result ≡ false → SomePace (of_net net.now) }
-{
-    let mut best = [(0, 0); 64];
-    let mut spare = [(0, 0); 64];
-    match search_steps(net, steps, edges, &mut best, &mut spare) {
-        Outcome::Starts => false,
-        Outcome::Above(_) => true,
-    }
-}
+use nets::Pace;
+use nets::circuit::Circuit;
+use nets::sound::SoundNet;
 
 // Whether a circuit's pair is above (0, 0), so that no pace has a timetable; else some pace has one.
-fn pairs_above(net: &Net) -> bool
-    requires good { Good net.now }
-    ensures above { result ≡ true → PairCircuit (of_net net.now) }
-    ensures allows { result ≡ false → SomePace (of_net net.now) }
+fn pairs_above(net: &SoundNet) -> bool
+    ensures above { result ≡ true → PairCircuit (of_net net.now.net) }
+    ensures allows { result ≡ false → SomePace (of_net net.now.net) }
 {
-    let mut steps = [Step::Forward(0); 320];
-    let count = list_steps(net, &mut steps);
-    let none = Edge {
-        from: 0,
-        to: 0,
-        length: (0, 0),
-    };
-    let mut edges = [none; 320];
-    search_pairs(net, &steps[0..count], &mut edges[0..count])
+    Steps::of(net)
+        .search(&mut edge_memory::<(i64, i64)>())
+        .is_err()
 }
 
 // The pair of a circuit: its shares and its time.
-fn circuit_pair(net: &Net, circuit: &Circuit) -> (i64, i64)
-    requires good { Good net.now }
-    requires refused { Refused net.now circuit.now }
-    ensures { result ≡ pair_of (of_net net.now) (map step_of (take circuit.now.count circuit.now.steps)) }
+fn circuit_pair(net: &SoundNet, circuit: &Circuit) -> (i64, i64)
+    requires refused { Refused net.now.net circuit.now }
+    ensures { result ≡ pair_of (of_net net.now.net) (map step_of circuit.now.steps.items) }
 {
     let mut sum = (0, 0);
-    for t in 0..circuit.count {
-        let edge = step_edge(net, circuit.steps[t].step);
-        sum = sum.join(edge.length);
+    for told in circuit.steps.iter() {
+        let step = NetStep {
+            net,
+            step: told.step,
+        };
+        sum = sum.join(step.pair_edge().length);
     }
     sum
 }
@@ -80,9 +59,8 @@ fn raised_by(pair: (i64, i64)) -> Raised
 }
 
 // One round: a search at the net's own pace.
-pub(crate) fn raise_net(net: &Net) -> Raised
-    requires good { Good net.now }
-    ensures { Raises (of_net net.now) net.now.pace result }
+pub(crate) fn raise_net(net: &SoundNet) -> Raised
+    ensures { Raises (of_net net.now.net) net.now.net.pace result }
 {
     match solve_net(net) {
         Ok(_) => Raised::Enough,
@@ -91,21 +69,18 @@ pub(crate) fn raise_net(net: &Net) -> Raised
 }
 
 // The slowest of the paces that the stations ask for alone: the greatest duration / rate.
-fn first_pace(net: &Net) -> Pace
-    requires good { Good net.now }
-    ensures { FirstPace (of_net net.now) result }
+fn first_pace(net: &SoundNet) -> Pace
+    ensures { FirstPace (of_net net.now.net) result }
 {
-    let mut slowest = 0;
-    for i in 0..net.stations as usize {
-        let here = net.durations[i] as u32 * net.rates[slowest] as u32;
-        let there = net.durations[slowest] as u32 * net.rates[i] as u32;
-        if there < here {
-            slowest = i;
+    let mut slowest = (net.durations()[0], net.rates()[0]);
+    for (&duration, &rate) in net.durations().iter().zip(net.rates()) {
+        if (slowest.0 as u32) * (rate as u32) < (duration as u32) * (slowest.1 as u32) {
+            slowest = (duration, rate);
         }
     }
     Pace {
-        share: net.durations[slowest] as u32,
-        unit: net.rates[slowest] as u64,
+        share: slowest.0 as u32,
+        unit: slowest.1 as u64,
     }
 }
 
@@ -121,20 +96,18 @@ fn reduced(pace: Pace) -> Pace
     }
 }
 
-// The fastest pace of a net that is known to be sound, where some pace has a timetable.
-pub(crate) fn fastest_of(net: &Net) -> Option<Pace>
-    requires good { Good net.now }
-    ensures { MatchOption result (NoPace (of_net net.now)) (FastestPace (of_net net.now)) }
+// The fastest pace of the net, where some pace has a timetable.
+pub(crate) fn fastest_of(net: &SoundNet) -> Option<Pace>
+    ensures { MatchOption result (NoPace (of_net net.now.net)) (FastestPace (of_net net.now.net)) }
 {
     if pairs_above(net) {
         return None;
     }
-    let mut at = *net;
-    at.pace = first_pace(net);
+    let mut pace = first_pace(net);
     loop {
-        match raise_net(&at) {
-            Raised::Enough => return Some(reduced(at.pace)),
-            Raised::To(pace) => at.pace = pace,
+        match raise_net(&repaced(net, pace)) {
+            Raised::Enough => return Some(reduced(pace)),
+            Raised::To(slower) => pace = slower,
             Raised::Never => return None,
         }
     }

@@ -1,15 +1,16 @@
-// The steps of a net, listed, and as edges with their pairs and with their lengths in ticks.
-ghost use Rattle.std.specs.Prelude.{◌≡◌, ◌+◌, ◌-◌, ◌*◌, ◌/◌, ◌<◌, ◌≤◌, ◌++◌, map, length, take, ℤ, pos, ◌+ℤ◌, ◌-ℤ◌, ◌*ℤ◌, neg_ℤ, slice_index, unsigned_abs};
+// A step that a net has, as an edge with its pair and as one with its length in ticks.
+ghost use Rattle.std.specs.Prelude.{◌≡◌, ◌+◌, ◌-◌, ◌*◌, ◌/◌, ◌<◌, ◌≤◌, ℤ, pos, ◌+ℤ◌, ◌-ℤ◌, ◌*ℤ◌, neg_ℤ, slice_index, unsigned_abs};
 ghost use Rattle.handover.specs.Gcd.{gcd};
-ghost use Rattle.rules.specs.Net.{Open, stations};
+ghost use Rattle.rules.specs.Net.{Open};
 ghost use Rattle.rules.specs.Steps.{Has};
-ghost use Rattle.nets.specs.Views.{of_link, of_net, of_step, Good};
-ghost use Rattle.timing.specs.Edges.{Opens, Placed, Known, unit_of, grain_of, between, own_edge_lem, pair_edge, tick_edge};
-ghost use Rattle.timing.specs.Listing.{links_to, owns_to, steps_of};
+ghost use Rattle.nets.specs.Views.{of_link, of_net, of_step};
+ghost use Rattle.timing.specs.Edges.{Opens, Placed, Known, unit_of, grain_of, between, loop_at, edge_in_pairs, edge_in_ticks};
+ghost use Rattle.timing.specs.Timing.{told_step};
 
 use handover::common_divisor;
 use lengths::Ticks;
-use nets::{Link, LinkEnds, LinkTerms, Net, Pace, Step};
+use nets::sound::SoundNet;
+use nets::{CircuitStep, Link, LinkEnds, LinkTerms, Net, Pace, Step};
 use search::Edge;
 
 // What so many parts are worth: a grain for each whole multiple of the unit.
@@ -45,12 +46,11 @@ fn pair_ticks(shares: i64, time: u16, pace: Pace) -> i64
 }
 
 // The link that is open under k.
-fn open_link(net: &Net, k: u8) -> Link
-    requires good { Good net.now }
-    requires here { Opens (of_net net.now) k }
-    ensures { Open (of_net net.now) k (of_link result) }
+fn open_link(net: &SoundNet, k: u8) -> Link
+    requires here { Opens (of_net net.now.net) k }
+    ensures { Open (of_net net.now.net) k (of_link result) }
 {
-    let slot = net.links[k as usize];
+    let slot = net.net.links[k as usize];
     match slot {
         Some(l) => l,
         None => unreachable(),
@@ -91,15 +91,25 @@ fn edge_between(net: &Net, x: u8, y: u8, worth: u64, grain: u64) -> Edge<(i64, i
     }
 }
 
+// The edge of a link's step from the station x to y, which counts so many parts.
+fn link_edge(net: &Net, l: Link, x: u8, y: u8, parts: u16) -> Edge<(i64, i64)>
+    requires from { Placed net.now x }
+    requires to { Placed net.now y }
+    requires known { Known net.now l parts }
+    ensures { result ≡ between net.now x y (parts / unit_of l * grain_of net.now l) (grain_of net.now l) }
+{
+    let unit = link_unit(l.terms);
+    let grain = link_grain(net, l.ends);
+    let worth = worth_of(parts as u64, unit, grain);
+    edge_between(net, x, y, worth, grain)
+}
+
 // A link's step forward counts its stock.
 fn forward_edge(net: &Net, l: Link) -> Edge<(i64, i64)>
     requires known { Known net.now l l.terms.stock }
     ensures { result ≡ between net.now l.ends.from l.ends.to (l.terms.stock / unit_of l * grain_of net.now l) (grain_of net.now l) }
 {
-    let unit = link_unit(l.terms);
-    let grain = link_grain(net, l.ends);
-    let worth = worth_of(l.terms.stock as u64, unit, grain);
-    edge_between(net, l.ends.from, l.ends.to, worth, grain)
+    link_edge(net, l, l.ends.from, l.ends.to, l.terms.stock)
 }
 
 // A link's step back counts its free room.
@@ -108,16 +118,13 @@ fn back_edge(net: &Net, l: Link, capacity: u16) -> Edge<(i64, i64)>
     requires known { Known net.now l (capacity - l.terms.stock) }
     ensures { result ≡ between net.now l.ends.to l.ends.from ((capacity - l.terms.stock) / unit_of l * grain_of net.now l) (grain_of net.now l) }
 {
-    let unit = link_unit(l.terms);
-    let grain = link_grain(net, l.ends);
-    let worth = worth_of((capacity - l.terms.stock) as u64, unit, grain);
-    edge_between(net, l.ends.to, l.ends.from, worth, grain)
+    link_edge(net, l, l.ends.to, l.ends.from, capacity - l.terms.stock)
 }
 
 // A station's own step leads from it to itself.
 fn own_edge(net: &Net, i: u8) -> Edge<(i64, i64)>
     requires placed { Placed net.now i }
-    ensures { result ≡ own_edge_lem net.now i }
+    ensures { result ≡ loop_at net.now i }
 {
     let shares = own_shares(net.rates[i as usize]);
     let time = net.durations[i as usize] as i64;
@@ -128,83 +135,54 @@ fn own_edge(net: &Net, i: u8) -> Edge<(i64, i64)>
     }
 }
 
-// A step of the net as an edge with its pair.
-pub(crate) fn step_edge(net: &Net, step: Step) -> Edge<(i64, i64)>
-    requires good { Good net.now }
-    requires has { Has (of_net net.now) (of_step step) }
-    ensures { result ≡ pair_edge (of_net net.now) (of_step step) }
-{
-    match step {
-        Step::Forward(k) => forward_edge(net, open_link(net, k)),
-        Step::Back(k) => {
-            let l = open_link(net, k);
-            let Some(capacity) = l.terms.capacity else {
-                unreachable()
-            };
-            back_edge(net, l, capacity)
-        }
-        Step::Own(i) => own_edge(net, i),
-    }
+// A step that its net has.
+#[derive(Clone, Copy)]
+pub(crate) struct NetStep<'a> {
+    pub(crate) net: &'a SoundNet,
+    pub(crate) step: Step,
+    ghost has: { ∥ Has (of_net net.now.net) (of_step step) ∥₁ },
 }
 
-// A step of the net as an edge with its length in ticks.
-pub(crate) fn step_ticks(net: &Net, step: Step) -> Edge<Ticks>
-    requires good { Good net.now }
-    requires has { Has (of_net net.now) (of_step step) }
-    ensures { result ≡ tick_edge (of_net net.now) (of_step step) }
-{
-    let edge = step_edge(net, step);
-    let time = net.durations[edge.from];
-    let ticks = pair_ticks(edge.length.0, time, net.pace);
-    Edge {
-        from: edge.from,
-        to: edge.to,
-        length: Ticks { ticks },
-    }
-}
-
-// The steps of the links, at the front of `steps`, and how many they are.
-fn list_link_steps(net: &Net, steps: &mut [Step; 320]) -> usize
-    requires good { Good net.now }
-    ensures few { result ≤ 256 }
-    ensures links { map of_step (take result steps.new) ≡ links_to (of_net net.now) (length (of_net net.now).links) }
-{
-    let mut count = 0;
-    for k in 0..128 {
-        let slot = net.links[k];
-        if let Some(l) = slot {
-            steps[count] = Step::Forward(k as u8);
-            count += 1;
-            if let Some(_) = l.terms.capacity {
-                steps[count] = Step::Back(k as u8);
-                count += 1;
+impl NetStep<'_> {
+    // The step as an edge with its pair.
+    pub(crate) fn pair_edge(&self) -> Edge<(i64, i64)>
+        ensures { result ≡ edge_in_pairs (of_net self.now.net.now.net) (of_step self.now.step) }
+    {
+        let net = &self.net.net;
+        match self.step {
+            Step::Forward(k) => forward_edge(net, open_link(self.net, k)),
+            Step::Back(k) => {
+                let l = open_link(self.net, k);
+                let Some(capacity) = l.terms.capacity else {
+                    unreachable()
+                };
+                back_edge(net, l, capacity)
             }
+            Step::Own(i) => own_edge(net, i),
         }
     }
-    count
-}
 
-// The stations' own steps, behind the first `count` of `steps`, and how many they all are.
-fn list_own_steps(net: &Net, count: usize, steps: &mut [Step; 320]) -> usize
-    requires good { Good net.now }
-    requires room { count ≤ 256 }
-    ensures few { result ≤ 320 }
-    ensures owns { map of_step (take result steps.new) ≡ map of_step (take count steps.old) ++ owns_to (stations (of_net net.now)) }
-{
-    let mut count = count;
-    for i in 0..net.stations {
-        steps[count] = Step::Own(i);
-        count += 1;
+    // The step as an edge with its length in ticks.
+    pub(crate) fn tick_edge(&self) -> Edge<Ticks>
+        ensures { result ≡ edge_in_ticks (of_net self.now.net.now.net) (of_step self.now.step) }
+    {
+        let edge = self.pair_edge();
+        let net = &self.net.net;
+        let time = net.durations[edge.from];
+        let ticks = pair_ticks(edge.length.0, time, net.pace);
+        Edge {
+            from: edge.from,
+            to: edge.to,
+            length: Ticks { ticks },
+        }
     }
-    count
-}
 
-// All steps of the net, at the front of `steps`, and how many they are.
-pub(crate) fn list_steps(net: &Net, steps: &mut [Step; 320]) -> usize
-    requires good { Good net.now }
-    ensures few { result ≤ 320 }
-    ensures all { map of_step (take result steps.new) ≡ steps_of (of_net net.now) }
-{
-    let links = list_link_steps(net, steps);
-    list_own_steps(net, links, steps)
+    // The step with its length in ticks, as it is told.
+    pub(crate) fn told(&self) -> CircuitStep
+        ensures { result ≡ told_step (of_net self.now.net.now.net) self.now.step }
+    {
+        let length = self.tick_edge().length.ticks;
+        let step = self.step;
+        CircuitStep { step, length }
+    }
 }

@@ -1,5 +1,14 @@
-use Rattle.std.proofs.Common.{ℕ, ◌*◌, ◌<◌, ◌≤◌, get_or}
+use Rattle.std.proofs.Common.{◌≡◌, length, drop}
+use Rattle.nets.specs.Views.{of_net}
+use Rattle.timing.proofs.Paced.{Slowest}
 use Rattle.timing.proofs.pace.first_pace.Given as goal
 
-abbrev pub invariant-loop-i : goal.invariant-loop-i
-invariant-loop-i l = (l.slowest < l.net.stations) × ((j : ℕ) → j < l.i → get_or l.net.durations j 0 * get_or l.net.rates l.slowest 0 ≤ get_or l.net.durations l.slowest 0 * get_or l.net.rates j 0)
+abbrev pub invariant-loop-duration : goal.invariant-loop-duration
+invariant-loop-duration l =
+    let N = of_net l.net.net in
+    let k = length l.yielded in
+    record {
+      slowest : Slowest N k l.slowest;
+      durations : l.duration-iterator.a.rest.now ≡ drop k N.durations;
+      rates : l.duration-iterator.b.rest.now ≡ drop k N.rates;
+    }

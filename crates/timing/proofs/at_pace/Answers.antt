@@ -1,6 +1,0 @@
-use Rattle.nets.proofs.Alone.{good}
-use Rattle.timing.proofs.Paced.{good_at}
-use Rattle.timing.proofs.at_pace.Goals as goal
-
-pub invariant_of-result : goal.invariant_of-result
-invariant_of-result c = record { good = ∣ good_at c.args.net.now.net (good _ c.args.net.now.good) c.args.pace (c.in_range.ensures.accepts c.if-not-in_range.false) ∣₁ }
