@@ -1,11 +1,10 @@
 -- The powers of ten from 1 on, and a number's digits by them.
-use Rattle.std.proofs.Common.{◌≡◌, ℕ, zero, suc, ◌+◌, ◌*◌, ◌/◌, ◌%◌, ◌^◌, ◌<◌, ◌≤◌, ◌⊎◌, inl, inr, ⊎_elim, true, false, leb, List, [], ◌∷◌, ◌++◌, ◌-◌, map, reverse, length, get_or, take, decimal, refl, sym, ap, ◌∙◌, subst, arith}
+use Rattle.std.proofs.Common.{◌≡◌, ℕ, zero, suc, ◌+◌, ◌*◌, ◌/◌, ◌%◌, ◌^◌, ◌<◌, ◌≤◌, ⊎_elim, true, false, leb, List, [], ◌∷◌, ◌++◌, ◌-◌, map, reverse, length, get_or, take, decimal, refl, sym, ap, ◌∙◌, subst, arith}
 use Rattle.std.proofs.Math.Nat.{pow-succ', pow-le-pow_right, one-le-pow, div-div-eq-div-mul}
 use Rattle.std.proofs.lemmas.Bool.{leb-true, leb-false, cases_lt}
 use Rattle.std.specs.List.Sorted.{IsPartitionPoint, IsNonDecreasing}
 use Rattle.std.proofs.lemmas.List.{take-map, get_or-map, length-map, map-append, reverse-append, length_push, length-reverse, get_or-reverse}
 use Rattle.std.proofs.lemmas.Fmt.{decimal_digit, decimal_step, decimal_nonempty}
-use Rattle.reports.proofs.Widths.{width_is}
 
 abbrev pub tens : ℕ → List ℕ
 tens zero = []
@@ -31,12 +30,14 @@ rising n i j d below within =
     let p : 10 ^ i ≤ 10 ^ j = pow-le-pow_right (omega arith) below in
     omega (arith, entry n i d (omega arith), entry n j d (omega arith))
 
--- n reaches the k-th power where n / 10 reaches the one before
-reached : (k n : ℕ) → 1 ≤ k → leb (get_or (tens 19) (k - 1) 0) (n / 10) ≡ true → k ≤ 19 → 10 ^ k ≤ n
-reached k n one passes within =
-    let here : 10 ^ (k - 1) ≤ n / 10 = subst (λ q. q ≤ n / 10) (entry 19 (k - 1) 0 (omega arith)) (leb-true (get_or (tens 19) (k - 1) 0) (n / 10) passes) in
-    let next : 10 ^ k ≡ 10 * 10 ^ (k - 1) = (let e : k ≡ suc (k - 1) = omega arith in ap (λ m. 10 ^ m) e ∙ pow-succ' 10 (k - 1)) in
-    omega arith
+-- k powers up to n / 10, and none more: n has one digit for each, and its last
+width : (k n : ℕ) → n < 2 ^ 64 → ((j : ℕ) → j < k → 10 ^ j ≤ n / 10) → n / 10 < 10 ^ k → length (decimal n) ≡ k + 1
+width zero n small low high = ap length (decimal_digit n (omega arith))
+width (suc k) n small low high =
+    let first = low 0 (omega arith) in
+    let step = decimal_step n (omega arith) small in
+    let rest = width k (n / 10) (omega arith) (λ j l. omega (arith, low (suc j) (omega arith), pow-succ' 10 j)) (omega (arith, pow-succ' 10 k)) in
+    omega (arith, rest, ap length step, length_push (decimal (n / 10)) (48 + n % 10))
 
 topmost : (k n : ℕ) → n < 2 ^ 64 → k ≤ 19 → 19 ≤ k → n / 10 < 10 ^ k
 topmost k n small within full = let e : k ≡ 19 = omega arith in rw e (let below : n / 10 < 10 ^ 19 = omega arith in below)
@@ -44,9 +45,8 @@ topmost k n small within full = let e : k ≡ 19 = omega arith in rw e (let belo
 pub counted : (n k : ℕ) → n < 2 ^ 64 → k ≤ 19 → IsPartitionPoint (λ y. leb y (n / 10) ≡ true) (λ y. leb y (n / 10) ≡ false) (tens 19) k → 1 + k ≡ length (decimal n)
 counted n k small within (low, high) =
     let above : n / 10 < 10 ^ k = ⊎_elim (λ l. subst (λ p. n / 10 < p) (entry 19 k 0 l) (leb-false (get_or (tens 19) k 0) (n / 10) (high k 0 (omega arith) l))) (λ g. topmost k n small within g) (cases_lt k 19) in
-    let under : (suc k ≡ 1) ⊎ (10 ^ (suc k - 1) ≤ n) = ⊎_elim (λ z. inl (omega arith)) (λ p. inr (subst (λ m. 10 ^ m ≤ n) (let e : k ≡ suc k - 1 = omega arith in e) (reached k n p (low (k - 1) 0 (omega arith) (omega arith)) within))) (cases_lt k 1) in
-    let top : n < 10 ^ suc k = omega (arith, pow-succ' 10 k) in
-    omega (arith, width_is (suc k) n (omega arith) under top small)
+    let w = width k n small (λ j l. subst (λ p. p ≤ n / 10) (entry 19 j 0 (omega arith)) (leb-true (get_or (tens 19) j 0) (n / 10) (low j 0 (omega arith) l))) above in
+    omega (arith, w)
 
 -- a number of one digit is below ten
 single : (n : ℕ) → n < 2 ^ 64 → length (decimal n) ≡ 1 → n < 10

@@ -3,10 +3,13 @@ ghost use Rattle.std.specs.Prelude.{◌≡◌, ◌+◌, ◌<◌, ◌≤◌, List
 use arrayvec::ArrayVec;
 use std::marker::Model;
 
-// A report as it is written, which contracts see as its bytes. Nothing of the engine allocates, so they stand in an array of 4,096.
+// No report has more bytes.
+pub(crate) const CAPACITY: usize = 4_096;
+
+// A report as it is written, which contracts see as its bytes.
 #[derive(Drop)]
 pub(crate) struct Report {
-    bytes: ArrayVec<u8, 4_096>,
+    bytes: ArrayVec<u8, CAPACITY>,
 }
 
 impl Model for Report {
@@ -28,20 +31,20 @@ impl Report {
 
     pub(crate) fn as_slice(&self) -> &[u8]
         ensures bytes { result.now ≡ self.now }
-        ensures fits { length result.now ≤ 4_096 }
+        ensures fits { length result.now ≤ CAPACITY }
     {
         self.bytes.as_slice()
     }
 
     pub(crate) fn push(&mut self, byte: u8)
-        requires { length self.old < 4_096 }
+        requires { length self.old < CAPACITY }
         ensures { self.new ≡ self.old ++ byte ∷ [] }
     {
         self.bytes.push(byte);
     }
 
     pub(crate) fn push_all(&mut self, bytes: &[u8])
-        requires { length self.old + length bytes.now ≤ 4_096 }
+        requires { length self.old + length bytes.now ≤ CAPACITY }
         ensures { self.new ≡ self.old ++ bytes.now }
     {
         for byte in bytes {

@@ -1,9 +1,8 @@
-// Numbers in decimal digits. The rule of the project: how many digits a number has comes from a table of the powers of ten up to 10^18.
-// So numbers are not printed by the library here.
+// Numbers in decimal digits, by a table of powers of ten.
 ghost use Rattle.std.specs.Prelude.{◌≡◌, ◌+◌, ◌<◌, ◌≤◌, ◌++◌, length, decimal};
 ghost use Rattle.std.specs.Fmt.{signed_decimal};
 
-use crate::buffer::Report;
+use crate::buffer::{CAPACITY, Report};
 
 const POWERS: [u64; 19] = [
     1,
@@ -27,7 +26,8 @@ const POWERS: [u64; 19] = [
     1_000_000_000_000_000_000,
 ];
 
-// How many digits the number has.
+// How many digits the number has. It is a rule of the project that a table of the powers of ten up to 10^18 tells this, so numbers are written
+// by the table here, and not by the library.
 fn digit_count(n: u64) -> usize
     ensures count { result ≡ length (decimal n) }
     ensures least { 1 ≤ result }
@@ -46,7 +46,7 @@ fn digit(d: u64) -> u8
 
 impl Report {
     pub(crate) fn push_number(&mut self, n: u64)
-        requires { length self.old + 20 ≤ 4_096 }
+        requires { length self.old + 20 ≤ CAPACITY }
         ensures bytes { self.new ≡ self.old ++ decimal n }
         ensures bound { length self.new ≤ length self.old + 20 }
     {
@@ -58,7 +58,7 @@ impl Report {
     }
 
     pub(crate) fn push_signed(&mut self, z: i64)
-        requires { length self.old + 21 ≤ 4_096 }
+        requires { length self.old + 21 ≤ CAPACITY }
         ensures bytes { self.new ≡ self.old ++ signed_decimal z }
         ensures bound { length self.new ≤ length self.old + 21 }
     {

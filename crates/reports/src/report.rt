@@ -3,7 +3,7 @@ ghost use Rattle.std.specs.Prelude.{length};
 ghost use Rattle.reports.specs.Bytes.{timetable_bytes, circuit_bytes, refusal_bytes};
 ghost use Rattle.reports.specs.Reported.{Reported};
 
-use crate::buffer::Report;
+use crate::buffer::{CAPACITY, Report};
 use crate::lines::{Lengths, Numbers, Steps};
 use crate::told::{Circuit, Timetable};
 use nets::Notice;
@@ -19,7 +19,7 @@ impl Report {
     fn copy_to(&self, out: &mut [u8]) -> Result<usize, ShortBuffer>
         ensures { Reported self.now out.old out.new result }
     {
-        if out.len() < 4_096 {
+        if out.len() < CAPACITY {
             return Err(ShortBuffer { length: out.len() });
         }
         let bytes = self.as_slice();
