@@ -12,7 +12,7 @@ use Rattle.rules.specs.Net.{Net, stations}
 use Rattle.rules.specs.Ranges.{Checked}
 use Rattle.rules.specs.Rates.{Joined, Rated, with_rates, NoRates}
 use Rattle.rates.specs.declared.Lead.{Lead}
-use Rattle.rates.specs.Reaching.{number, Balances, AllEven, parts, factor, end, Onward, Reached, Part}
+use Rattle.rates.specs.Reaching.{number, Balances, AllBalanced, parts, factor, end, Onward, Reached, Part}
 use Rattle.rates.proofs.Links.{Terms, terms_of, balance_of, led_reached}
 
 -- what the code computes: the end and the factor are the parts of the two numbers that their gcd leaves
@@ -112,7 +112,7 @@ module _ (N : Net) (z : List ℕ) (C : Checked N) (J : Joined N) (P : Part N z) 
   all_reached y h = led_reached N z O 0 y (J y h) P.begun
 
   -- where these do not balance the links, nothing does
-  pub unbalanced : (AllEven N z → ⊥) → NoRates N
+  pub unbalanced : (AllBalanced N z → ⊥) → NoRates N
   unbalanced uneven Y R =
       let (c, c_pos, w) = multiple N z Y C P R in
       uneven (λ k l o.
@@ -146,7 +146,7 @@ module _ (N : Net) (z : List ℕ) (C : Checked N) (J : Joined N) (P : Part N z) 
     pub reduced_at : d ≤ 1
     reduced_at = let p = P.whole divided divided_balances in one (number z 0) (number divided 0) p.0 P.begun (divided_at 0 C.some) (p.1 0 P.begun)
 
-  pub balanced_rates : AllEven N z → Rated (with_rates N (take (stations N) z))
+  pub balanced_rates : AllBalanced N z → Rated (with_rates N (take (stations N) z))
   balanced_rates E =
       record {
         complete = length-take-le (stations N) z (let long = P.many in let few = C.few in omega arith);

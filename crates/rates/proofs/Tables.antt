@@ -17,7 +17,7 @@ use Rattle.nets.specs.declared.Link.{Link}
 use Rattle.nets.specs.declared.Net.{Net}
 use Rattle.nets.specs.Views.{of_link, of_slot, of_net, Whole, Ranged, Good}
 use Rattle.rates.specs.declared.Lead.{Lead}
-use Rattle.rates.specs.Reaching.{Even, AllEven, OnwardBy, Onward}
+use Rattle.rates.specs.Reaching.{Balanced, AllBalanced, OnwardBy, Onward}
 use Rattle.rates.specs.Answer.{with_table, Replaced}
 use Rattle.rates.proofs.Searches.{place_of, of_place}
 
@@ -55,9 +55,9 @@ pub onward_found : (M : Net) (z : List ℕ) (r : Option Lead) → MatchOption r 
 onward_found M z None h = all_open M (λ t. OnwardBy t z None) h
 onward_found M z (Some s) (k, i, h) = some_open M (λ t. OnwardBy t z (Some s)) k i h
 
-pub even_found : (M : Net) (z : List ℕ) (r : Bool) → MatchBool r (AllWithin (λ l. Even (of_link l) z) (flat_map option_to_list M.links) 0 (length (flat_map option_to_list M.links))) ((k : ℕ) × (k < length (flat_map option_to_list M.links)) × HoldsAt (λ l. Even (of_link l) z → ⊥) (flat_map option_to_list M.links) k) → IsTrue r ↔ AllEven (of_net M) z
-even_found M z true h = (λ t. all_open M (λ l. Even l z) (All-from_all_within (λ l. Even (of_link l) z) (flat_map option_to_list M.links) h), λ e. refl)
-even_found M z false (k, i, h) = let s = some_open M (λ l. Even l z → ⊥) k i h in (λ e. absurd (false≢true e), λ E. absurd (s.3 (E s.0 s.1 s.2)))
+pub balanced_found : (M : Net) (z : List ℕ) (r : Bool) → MatchBool r (AllWithin (λ l. Balanced (of_link l) z) (flat_map option_to_list M.links) 0 (length (flat_map option_to_list M.links))) ((k : ℕ) × (k < length (flat_map option_to_list M.links)) × HoldsAt (λ l. Balanced (of_link l) z → ⊥) (flat_map option_to_list M.links) k) → IsTrue r ↔ AllBalanced (of_net M) z
+balanced_found M z true h = (λ t. all_open M (λ l. Balanced l z) (All-from_all_within (λ l. Balanced (of_link l) z) (flat_map option_to_list M.links) h), λ e. refl)
+balanced_found M z false (k, i, h) = let s = some_open M (λ l. Balanced l z → ⊥) k i h in (λ e. absurd (false≢true e), λ E. absurd (s.3 (E s.0 s.1 s.2)))
 
 -- what is asked of a net before it has rates does not ask for rates
 checked_with : (N : rules.Net) (Z : List ℕ) → Checked N → Checked (with_rates N Z)

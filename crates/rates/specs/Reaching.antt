@@ -22,11 +22,11 @@ abbrev pub Balances : Net → List ℕ → Type 0
 Balances N z = (k : ℕ) (l : Link) → Open N k l → Balance l z
 
 -- Both ends are reached, and their numbers balance the link.
-abbrev pub Even : Link → List ℕ → Type 0
-Even l z = (1 ≤ number z l.i) × (1 ≤ number z l.j) × Balance l z
+abbrev pub Balanced : Link → List ℕ → Type 0
+Balanced l z = (1 ≤ number z l.i) × (1 ≤ number z l.j) × Balance l z
 
-abbrev pub AllEven : Net → List ℕ → Type 0
-AllEven N z = (k : ℕ) (l : Link) → Open N k l → Even l z
+abbrev pub AllBalanced : Net → List ℕ → Type 0
+AllBalanced N z = (k : ℕ) (l : Link) → Open N k l → Balanced l z
 
 -- How many stations are not reached.
 abbrev pub missing : List ℕ → ℕ
@@ -62,11 +62,6 @@ Onward N z (Some s) = (k : ℕ) × (l : Link) × Open N k l × OnwardBy l z (Som
 abbrev pub Lowest : ℕ → List ℕ → Option ℕ → Type 0
 Lowest n z None = (y : ℕ) → y < n → 1 ≤ number z y
 Lowest n z (Some y) = (y < n) × (number z y ≡ 0) × ((x : ℕ) → x < y → 1 ≤ number z x)
-
--- The number itself; or it passes 10,000.
-abbrev pub AsRate : ℕ → Option ℕ → Type 0
-AsRate n None = 10_000 < n
-AsRate n (Some rate) = (rate ≡ n) × (n ≤ 10_000)
 
 -- Every number times m; or one of them passes 10,000 so.
 abbrev pub Scaled : List ℕ → ℕ → List ℕ → Option (Unit {0}) → Type 0

@@ -5,7 +5,7 @@ ghost use Rattle.std.specs.Prelude.{◌≡◌, ◌*◌, ◌<◌, ◌≤◌, ◌�
 ghost use Rattle.rules.specs.Net.{stations};
 ghost use Rattle.rules.specs.Rates.{Joined, CutOff, Rated, with_rates, NoRates};
 ghost use Rattle.nets.specs.Views.{of_link, of_net};
-ghost use Rattle.rates.specs.Reaching.{number, if_reached, along, Even, AllEven, OnwardBy, Onward, Lowest, AsRate, Scaled, Reached};
+ghost use Rattle.rates.specs.Reaching.{number, if_reached, along, Balanced, AllBalanced, OnwardBy, Onward, Lowest, Scaled, Reached};
 ghost use Rattle.rates.specs.Answer.{Replaced, Told};
 ghost use Rattle.rates.specs.Theorems.{RatesOne, CutOffOne, Worked};
 
@@ -30,11 +30,11 @@ struct Lead {
     consumed: u16,
 }
 
-impl Lead {
-    // The link followed the way that its parts go.
-    fn new(link: Link) -> Self
-        ensures { result ≡ along (of_link link) }
-    {
+// The link followed the way that its parts go.
+impl From<Link> for Lead {
+    ghost from_gives = { λ link lead. lead ≡ along (of_link link) };
+
+    fn from(link: Link) -> Self {
         Lead {
             from: link.ends.from,
             to: link.ends.to,
@@ -42,7 +42,9 @@ impl Lead {
             consumed: link.terms.consumed,
         }
     }
+}
 
+impl Lead {
     // The same link followed the other way.
     fn turned(self) -> Self
         ensures { result ≡ record { from = self.to; to = self.from; produced = self.consumed; consumed = self.produced } }
@@ -58,7 +60,7 @@ impl Lead {
 
 // The number as a rate, unless it passes 10,000.
 fn as_rate(n: u64) -> Option<u16>
-    ensures { AsRate n result }
+    ensures { MatchOption result (10_000 < n) (λ rate. (rate ≡ n) × (rate ≤ 10_000)) }
 {
     u16::try_from(n).ok().filter(|rate| *rate <= 10_000)
 }
@@ -90,7 +92,7 @@ impl Numbers {
     fn lead_on(&self, link: Link) -> Option<Lead>
         ensures { OnwardBy (of_link link) self.now.z result }
     {
-        let lead = Lead::new(link);
+        let lead = Lead::from(link);
         match (self.of(lead.from), self.of(lead.to)) {
             (Some(_), None) => Some(lead),
             (None, Some(_)) => Some(lead.turned()),
@@ -144,7 +146,7 @@ impl Numbers {
 
     // Whether both ends of the link are reached, and their numbers balance it.
     fn balances(&self, link: Link) -> bool
-        ensures { IsTrue result ↔ (Even (of_link link) self.now.z) }
+        ensures { IsTrue result ↔ (Balanced (of_link link) self.now.z) }
     {
         let (Some(from), Some(to)) = (self.of(link.ends.from), self.of(link.ends.to)) else {
             return false;
@@ -156,7 +158,7 @@ impl Numbers {
 
     // Whether this is so of every link.
     fn balanced(&self, checked: &CheckedNet) -> bool
-        ensures { IsTrue result ↔ (AllEven (of_net checked.now.net) self.now.z) }
+        ensures { IsTrue result ↔ (AllBalanced (of_net checked.now.net) self.now.z) }
     {
         checked
             .net
