@@ -1,7 +1,9 @@
 -- One step of a reading, at a place of the text.
-use Rattle.std.proofs.Common.{◌≡◌, ℕ, ◌+◌, ◌-◌, ◌*◌, ◌^◌, ◌<◌, ◌≤◌, min, Bool, true, false, cond, eqb, List, [], ◌∷◌, length, get_or, drop, Some, None, Option, sym, refl, ap, ◌∙◌, ⊎_elim, arith}
+use Rattle.std.proofs.Common.{◌≡◌, ℕ, ◌+◌, ◌-◌, ◌*◌, ◌^◌, ◌<◌, ◌≤◌, min, Bool, true, false, cond, eqb, List, [], ◌∷◌, length, get_or, drop, Some, None, Option, sym, refl, ap, ◌∙◌, ⊎_elim, ◌⊎◌, inl, inr, MatchOption, Bor, arith}
+use Rattle.std.specs.List.{HoldsAt}
+use Rattle.std.specs.Option.{option_eq}
 use Rattle.std.proofs.lemmas.List.{at_drop_more, at_drop_all}
-use Rattle.std.proofs.lemmas.Bool.{cases_Bool, cases_lt, eq-eqb, ne_eqb, both_ways}
+use Rattle.std.proofs.lemmas.Bool.{cases_Bool, cases_lt, eq-eqb, eqb-true, eqb-false, ne_eqb, both_ways}
 use Rattle.std.proofs.lemmas.Bool.Decides.{nat_tests}
 use Rattle.handover.proofs.Options.{none_some, some_same}
 use Rattle.texts.specs.declared.lexer.Mark.{Mark}
@@ -144,3 +146,14 @@ run_done_end at a (c ∷ cs) e = absurd (none_some _ (sym e))
 pub run_done_more : {F A : Type 0} (at : ℕ) (a : A) (cs : List ℕ) → (lexeme_at cs ≡ None → ⊥) → run {F = F} at (done a) cs ≡ broken at
 run_done_more at a [] n = absurd (n refl)
 run_done_more at a (c ∷ cs) n = refl
+
+-- whether the byte at a place is b, where `get` looks for it
+pub byte_is : (o : Option (Bor ℕ)) (b : Bor ℕ) (t : List ℕ) (i : ℕ) → MatchOption o (length t ≤ i) (λ x. (i < length t) × HoldsAt (λ y. x.now ≡ y) t i)
+    → option_eq (λ x y. eqb x.now y.now) o (Some b) ≡ true → (i < length t) × (get_or t i 0 ≡ b.now)
+byte_is None b t i m e = absurd (both_ways false refl e)
+byte_is (Some x) b t i m e = (m.0, sym (m.1 0) ∙ eqb-true x.now b.now e)
+
+pub byte_is_not : (o : Option (Bor ℕ)) (b : Bor ℕ) (t : List ℕ) (i : ℕ) → MatchOption o (length t ≤ i) (λ x. (i < length t) × HoldsAt (λ y. x.now ≡ y) t i)
+    → option_eq (λ x y. eqb x.now y.now) o (Some b) ≡ false → (length t ≤ i) ⊎ ((i < length t) × (get_or t i 0 ≡ b.now → ⊥))
+byte_is_not None b t i m e = inl m
+byte_is_not (Some x) b t i m e = inr (m.0, λ h. eqb-false x.now b.now e (m.1 0 ∙ h))

@@ -1,10 +1,11 @@
 // The smallest parts of a text: a mark, a word, a number, the end.
 ghost use Rattle.std.specs.Prelude.{◌≡◌, ℕ, ◌+◌, ◌≤◌, false, length, drop, MatchOption};
 ghost use Rattle.forms.specs.Marks.{digit_first, number_at};
-ghost use Rattle.forms.specs.Form.{mark};
+ghost use Rattle.forms.specs.Form.{mark, broken as broken_lem};
 ghost use Rattle.forms.specs.Lines.{word};
 ghost use Rattle.texts.specs.declared.lexer.Lexeme.TheVariants.{Digit};
 ghost use Rattle.texts.specs.Lexemes.{lexeme_at, byte_of, word_of};
+ghost use Rattle.texts.specs.Faults.{Worded, said};
 ghost use Rattle.texts.specs.Reading.{rest, Reads, Numbered, Started, Ended, Placed, Moved};
 
 use crate::fault::{TextFault, Word};
@@ -40,6 +41,14 @@ impl<'a> Reader<'a> {
         }
     }
 
+    // The form is left here.
+    fn broken(&self) -> TextFault<'a>
+        ensures said { said result ≡ broken_lem self.now.at }
+        ensures worded { Worded self.now.text.now result }
+    {
+        TextFault::Form(self.word(self.at))
+    }
+
     // The draft's answer about the number that begins at `at`: its fault is told with the number's word.
     pub(crate) fn placed<T>(
         &self,
@@ -70,7 +79,7 @@ impl<'a> Reader<'a> {
             self.at += 1;
             Ok(())
         } else {
-            Err(TextFault::Form(self.word(self.at)))
+            Err(self.broken())
         }
     }
 
@@ -79,8 +88,8 @@ impl<'a> Reader<'a> {
         ensures { Reads self.old (λ k. word letters.now (k tt)) result self.new }
     {
         for b in letters {
-            if self.at == self.text.len() || self.text[self.at] != *b {
-                return Err(TextFault::Form(self.word(self.at)));
+            if self.text.get(self.at) != Some(b) {
+                return Err(self.broken());
             }
             self.at += 1;
         }
@@ -103,13 +112,13 @@ impl<'a> Reader<'a> {
         ensures same { self.new.text.now ≡ self.old.text.now }
     {
         let Some(first) = self.digit() else {
-            return Err(TextFault::Form(self.word(self.at)));
+            return Err(self.broken());
         };
         self.at += 1;
         let mut n = first as u64;
         while let Some(d) = self.digit() {
             if first == 0 {
-                return Err(TextFault::Form(self.word(self.at)));
+                return Err(self.broken());
             }
             n = n.saturating_mul(10).saturating_add(d as u64);
             self.at += 1;
@@ -123,7 +132,7 @@ impl<'a> Reader<'a> {
     {
         match self.peek() {
             None => Ok(()),
-            Some(_) => Err(TextFault::Form(self.word(self.at))),
+            Some(_) => Err(self.broken()),
         }
     }
 }

@@ -12,5 +12,5 @@ returns-in-None c = λ a. run_done_end c.args.self.now.at a (rest c.args.self.no
 pub returns-in-Some : goal.returns-in-Some
 returns-in-Some c =
     let x = c.args.self.now in
-    λ a. halts_form x (done a) x.at c.word.result
-    (run_done_more x.at a (rest x) (λ e. none_some _ (sym e ∙ sym c.in-Some.ensures))) c.word.ensures
+    λ a. halts_form x (done a) c.broken.result
+    (run_done_more x.at a (rest x) (λ e. none_some _ (sym e ∙ sym c.in-Some.ensures))) c.broken.ensures.said c.broken.ensures.worded

@@ -22,5 +22,5 @@ pub returns-else-eq : goal.returns-else-eq
 returns-else-eq c =
     let x = c.args.self.now in
     let n : c.peek.result ≡ Some (Sign c.args.m) → ⊥ = search rules in
-    λ k. halts_form x (mark (byte_of c.args.m) (k tt)) x.at c.word.result
-    (run_sign_no x.at c.args.m (k tt) x.text.now (λ e. n (c.peek.ensures ∙ e))) c.word.ensures
+    λ k. halts_form x (mark (byte_of c.args.m) (k tt)) c.broken.result
+    (run_sign_no x.at c.args.m (k tt) x.text.now (λ e. n (c.peek.ensures ∙ e))) c.broken.ensures.said c.broken.ensures.worded

@@ -14,11 +14,8 @@ use Rattle.texts.proofs.reader.Reader.number.Goals as goal
 pub returns-in_default : goal.returns-in_default
 returns-in_default c =
     let x = c.args.self.now in
-    let w = c.word.result in
-    let h = c.word.ensures in
     record {
-      reads = numbered_none x x (Form w) c.in_default.ensures
-          (ap broken h.1) (h.0 ∙ ap (λ n. word_of (drop n x.text.now)) (sym h.1));
+      reads = numbered_none x x c.broken.result c.in_default.ensures c.broken.ensures.said c.broken.ensures.worded;
       same = refl;
     }
 
@@ -30,8 +27,8 @@ returns-then-first-eq0 c =
     let x = c.args.self.now in
     let t = x.text.now in
     let y = c.loop-d.self in
-    let w = c.word-then-first-eq0.result in
-    let h = c.word-then-first-eq0.ensures in
+    let e = c.broken-then-first-eq0.result in
+    let h = c.broken-then-first-eq0.ensures in
     let a = digit_here x.at t c.in-Some.first c.in-Some.ensures in
     let b = digit_here y.at y.text.now c.in-Some-digit.d c.in-Some-digit.ensures in
     let p = c.loop-d.invariant.4 c.if-first-eq0.true in
@@ -39,8 +36,8 @@ returns-then-first-eq0 c =
     let first : is_digit (get_or t x.at 0) ≡ true = a.1 in
     let nil : 0 ≡ get_or t x.at 0 - 48 = sym c.if-first-eq0.true ∙ a.2 in
     let zero : get_or t x.at 0 ≡ 48 = grind (arith, nat_tests) in
-    let worded : Worded t (Form w) = subst (λ s. Worded s (Form w)) c.loop-d.invariant.0 (h.0 ∙ ap (λ n. word_of (drop n y.text.now)) (sym h.1)) in
-    record { reads = numbered_led x y t refl a.0 (Form w) zero here (ap broken (h.1 ∙ p)) worded; same = c.loop-d.invariant.0 }
+    let worded : Worded t e = subst (λ s. Worded s e) c.loop-d.invariant.0 h.worded in
+    record { reads = numbered_led x y t refl a.0 e zero here (h.said ∙ ap broken p) worded; same = c.loop-d.invariant.0 }
 
 pub invariant_of-self-in-Some-digit : goal.invariant_of-self-in-Some-digit
 invariant_of-self-in-Some-digit c = omega (arith, (digit_here c.loop-d.self.at c.loop-d.self.text.now c.in-Some-digit.d c.in-Some-digit.ensures).0)
