@@ -22,7 +22,7 @@ use Rattle.drafts.specs.Checks.{durations_fault, all_ends_fault, all_terms_fault
 use Rattle.drafts.proofs.Firsts.{or_none, none_fails}
 
 -- a part from the front, as the code has it
-pub from_front : {X : Type 0} (f : List X → Option DraftFault) (n : ℕ) (xs : List X) → None ≡ f (take (n - 0) xs) → f (take n xs) ≡ None
+pub from_front : {X : Type 0} {o : Option DraftFault} (f : List X → Option DraftFault) (n : ℕ) (xs : List X) → o ≡ f (take (n - 0) xs) → f (take n xs) ≡ o
 from_front f n xs e = ap (λ k. f (take k xs)) (sym (sub-zero n)) ∙ sym e
 
 none_there : (k : ℕ) → get_or {A = Option Link} (replicate 128 None) k None ≡ None

@@ -1,48 +1,32 @@
 // A filled draft checked once more, entry after entry, and its net.
 ghost use Rattle.std.specs.Prelude.{◌≡◌, ℕ, ◌≤◌, length, None, slice_index_or};
 ghost use Rattle.drafts.specs.Faults.{faulted};
-ghost use Rattle.drafts.specs.Checks.{durations_fault, all_ends_fault, all_terms_fault, rooms_fault, entry_slot, WholeTables, Checks};
+ghost use Rattle.drafts.specs.Checks.{first_fault, rooms_fault, entry_slot, WholeTables, Checks};
 
-use crate::entries::{check_duration, check_ends, check_room, check_sizes, check_terms};
+use crate::entries::{Entry, check_sizes};
 use crate::fault::DraftFault;
 use crate::stage::{Filled, NetSizes};
 use crate::tables::Tables;
 use nets::checked::CheckedNet;
 use nets::{Link, LinkEnds, LinkTerms, Net};
 
-fn check_durations(durations: &[u16]) -> Result<(), DraftFault>
-    ensures { faulted result ≡ durations_fault durations.now }
+// That no entry has a fault by itself.
+fn check_each<E: Entry>(stations: u8, entries: &[E]) -> Result<(), DraftFault>
+    ensures { faulted result ≡ first_fault (λ k e. E.fault stations e) 0 entries.now }
 {
-    for d in durations {
-        check_duration(*d)?;
+    for e in entries {
+        e.check(stations)?;
     }
     Ok(())
 }
 
-fn check_all_ends(stations: u8, ends: &[LinkEnds]) -> Result<(), DraftFault>
-    ensures { faulted result ≡ all_ends_fault stations ends.now }
-{
-    for e in ends {
-        check_ends(stations, *e)?;
-    }
-    Ok(())
-}
-
-fn check_all_terms(terms: &[LinkTerms]) -> Result<(), DraftFault>
-    ensures { faulted result ≡ all_terms_fault terms.now }
-{
-    for t in terms {
-        check_terms(*t)?;
-    }
-    Ok(())
-}
-
+// That no capacity is below its stock.
 fn check_rooms(terms: &[LinkTerms]) -> Result<(), DraftFault>
     requires { length terms.now ≤ 128 }
     ensures { faulted result ≡ rooms_fault terms.now }
 {
-    for k in 0..terms.len() {
-        check_room(k as u8, terms[k])?;
+    for (k, t) in terms.iter().enumerate() {
+        t.check_place(k as u8)?;
     }
     Ok(())
 }
@@ -74,9 +58,9 @@ fn check_entries(
 {
     check_sizes(sizes)?;
     let links = sizes.links as usize;
-    check_durations(&durations[0..sizes.stations as usize])?;
-    check_all_ends(sizes.stations, &ends[0..links])?;
-    check_all_terms(&terms[0..links])?;
+    check_each(sizes.stations, &durations[0..sizes.stations as usize])?;
+    check_each(sizes.stations, &ends[0..links])?;
+    check_each(sizes.stations, &terms[0..links])?;
     check_rooms(&terms[0..links])?;
     let net = Net {
         stations: sizes.stations,

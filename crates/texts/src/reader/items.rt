@@ -12,7 +12,7 @@ use crate::fault::{TextFault, Word};
 use crate::lexer::{Lexeme, Mark, first_mark, lex};
 use crate::reader::Reader;
 use drafts::fault::DraftFault;
-use drafts::stage::moves::Left;
+use drafts::stage::Left;
 
 impl<'a> Reader<'a> {
     pub(crate) fn new(text: &'a [u8]) -> Reader<'a>
