@@ -9,6 +9,7 @@ use crate::stage::{Filled, NetSizes};
 use crate::tables::Tables;
 use nets::checked::CheckedNet;
 use nets::{Link, LinkEnds, LinkTerms, Net};
+use std::array;
 
 // That no entry has a fault by itself.
 fn check_each<E: Entry>(stations: u8, entries: &[E]) -> Result<(), DraftFault>
@@ -31,20 +32,24 @@ fn check_rooms(terms: &[LinkTerms]) -> Result<(), DraftFault>
     Ok(())
 }
 
+// The link of this number, if there are so many.
+fn draft_link(links: u8, ends: &[LinkEnds; 128], terms: &[LinkTerms; 128], k: usize) -> Option<Link>
+    requires { links ≤ 128 }
+    ensures { result ≡ entry_slot links ends.now terms.now k }
+{
+    (k < links as usize).then(|| Link {
+        ends: ends[k],
+        terms: terms[k],
+    })
+}
+
 // The links of a draft, by number.
 fn draft_links(links: u8, ends: &[LinkEnds; 128], terms: &[LinkTerms; 128]) -> [Option<Link>; 128]
     requires { links ≤ 128 }
     ensures many { length result ≡ 128 }
     ensures each { (k : ℕ) → slice_index_or result k None ≡ entry_slot links ends.now terms.now k }
 {
-    let mut slots = [None; 128];
-    for k in 0..links as usize {
-        slots[k] = Some(Link {
-            ends: ends[k],
-            terms: terms[k],
-        });
-    }
-    slots
+    array::from_fn(|k| draft_link(links, ends, terms, k))
 }
 
 fn check_entries(
