@@ -52,26 +52,22 @@ fn draft_links(links: u8, ends: &[LinkEnds; 128], terms: &[LinkTerms; 128]) -> [
     array::from_fn(|k| draft_link(links, ends, terms, k))
 }
 
-fn check_entries(
-    sizes: NetSizes,
-    durations: &[u16; 64],
-    ends: &[LinkEnds; 128],
-    terms: &[LinkTerms; 128],
-) -> Result<CheckedNet, DraftFault>
-    ensures checks { Checks sizes (record { durations = durations.now; ends = ends.now; terms = terms.now }) result }
-    ensures whole { WholeTables (record { durations = durations.now; ends = ends.now; terms = terms.now }) }
+fn check_entries(sizes: NetSizes, tables: &Tables) -> Result<CheckedNet, DraftFault>
+    ensures checks { Checks sizes tables.now result }
+    ensures whole { WholeTables tables.now }
 {
-    check_sizes(sizes)?;
+    let stations = sizes.stations as usize;
     let links = sizes.links as usize;
-    check_each(sizes.stations, &durations[0..sizes.stations as usize])?;
-    check_each(sizes.stations, &ends[0..links])?;
-    check_each(sizes.stations, &terms[0..links])?;
-    check_rooms(&terms[0..links])?;
+    check_sizes(sizes)?;
+    check_each(sizes.stations, &tables.durations[..stations])?;
+    check_each(sizes.stations, &tables.ends[..links])?;
+    check_each(sizes.stations, &tables.terms[..links])?;
+    check_rooms(&tables.terms[..links])?;
     let net = Net {
         stations: sizes.stations,
-        durations: *durations,
+        durations: tables.durations,
         rates: [0; 64],
-        links: draft_links(sizes.links, ends, terms),
+        links: draft_links(sizes.links, &tables.ends, &tables.terms),
         pace: sizes.pace,
     };
     Ok(CheckedNet { net })
@@ -82,10 +78,5 @@ pub fn check(filled: &Filled, tables: &Tables) -> Result<CheckedNet, DraftFault>
     ensures checks { Checks filled.now.sizes tables.now result }
     ensures whole { WholeTables tables.now }
 {
-    check_entries(
-        filled.sizes(),
-        &tables.durations,
-        &tables.ends,
-        &tables.terms,
-    )
+    check_entries(filled.sizes(), tables)
 }
