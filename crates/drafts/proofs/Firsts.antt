@@ -3,7 +3,10 @@ use Rattle.std.proofs.Common.{◌≡◌, ℕ, zero, suc, ◌+◌, ◌<◌, ◌�
 use Rattle.std.proofs.lemmas.List.{drop_more, drop_all}
 use Rattle.drafts.specs.declared.fault.DraftFault.{DraftFault}
 use Rattle.drafts.specs.Faults.{or_else, faulted}
-use Rattle.drafts.specs.Checks.{first_fault}
+use Rattle.nets.specs.declared.checked.CheckedNet.{CheckedNet}
+use Rattle.drafts.specs.declared.stage.NetSizes.{NetSizes}
+use Rattle.drafts.specs.declared.tables.Tables.{Tables}
+use Rattle.drafts.specs.Checks.{first_fault, draft_fault, Checks}
 
 module _ {X : Type 0} (f : ℕ → X → Option DraftFault) (xs : List X) (i : ℕ) (d : X) (h : i < length xs) where
   here : first_fault f i (drop i xs) ≡ or_else (f i (get_or xs i d)) (first_fault f (i + 1) (drop (i + 1) xs))
@@ -32,3 +35,13 @@ none_fails f k [] e i d h = absurd (omega arith)
 none_fails f k (x ∷ xs) e zero d h = subst (λ n. f n x ≡ None) (let z : k ≡ k + 0 = omega arith in z) (or_none _ _ e).0
 none_fails f k (x ∷ xs) e (suc i) d h =
     subst (λ n. f n (get_or xs i d) ≡ None) (let z : suc k + i ≡ k + suc i = omega arith in z) (none_fails f (suc k) xs (or_none _ _ e).1 i d (omega arith))
+
+-- a check of the whole draft that stops with a fault
+pub stops : (s : NetSizes) (t : Tables) (r : Result CheckedNet DraftFault) (e : DraftFault) → (y : DraftFault) × (r ≡ Err y) × (y ≡ e) → draft_fault s t ≡ Some e → Checks s t r
+stops s t r e p q = subst (Checks s t) (sym (p.1 ∙ ap Err p.2)) q
+
+pub fourth : (a b c d e : Option DraftFault) (f : DraftFault) → a ≡ None → b ≡ None → c ≡ None → d ≡ Some f → or_else a (or_else b (or_else c (or_else d e))) ≡ Some f
+fourth a b c d e f p q r h = rw (p, q, r, h)
+
+pub fifth : (a b c d e : Option DraftFault) (f : DraftFault) → a ≡ None → b ≡ None → c ≡ None → d ≡ None → e ≡ Some f → or_else a (or_else b (or_else c (or_else d e))) ≡ Some f
+fifth a b c d e f p q r h i = rw (p, q, r, h, i)

@@ -1,3 +1,4 @@
 pub mod Firsts
 pub mod Ranging
 pub mod Offering
+pub mod Drawn

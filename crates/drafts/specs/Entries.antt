@@ -1,8 +1,9 @@
 -- The faults of one entry by itself. Assumes nothing.
-use Rattle.std.specs.Prelude.{ℕ, Some, None, Option, nat_lt}
+use Rattle.std.specs.Prelude.{◌≡◌, ℕ, List, Some, None, Option, nat_lt}
 use Rattle.nets.specs.declared.LinkEnds.{LinkEnds}
 use Rattle.nets.specs.declared.LinkTerms.{LinkTerms}
 use Rattle.drafts.specs.declared.stage.NetSizes.{NetSizes}
+use Rattle.drafts.specs.declared.tables.Tables.{Tables}
 use Rattle.drafts.specs.declared.fault.DraftFault.{DraftFault}
 use Rattle.drafts.specs.declared.fault.DraftFault.TheVariants.{Capacity}
 use Rattle.drafts.specs.Faults.{or_else, fault_if, range_fault, station_fault}
@@ -36,3 +37,9 @@ abbrev pub terms_fault : LinkTerms → Option DraftFault
 terms_fault t =
     or_else (range_fault 1 1 1_000 t.produced)
     (or_else (range_fault 2 1 1_000 t.consumed) (or_else (range_fault 3 0 10_000 t.stock) (capacity_fault t.capacity)))
+
+-- A column of the tables, and the tables with another in its place: they have that one then, and nothing else has changed.
+pub record IsColumn {E : Type 0} (column : Tables → List E) (with_column : Tables → List E → Tables) : Type 0 where
+  pub got : (t : Tables) (xs : List E) → column (with_column t xs) ≡ xs
+  pub last : (t : Tables) (xs ys : List E) → with_column (with_column t xs) ys ≡ with_column t ys
+  pub own : (t : Tables) → with_column t (column t) ≡ t

@@ -1,11 +1,15 @@
-// The checks of one entry by itself, number after number.
-ghost use Rattle.std.specs.Prelude.{◌≡◌};
+// The entries of a draft, and the checks of one by itself, number after number.
+ghost use Rattle.std.specs.Prelude.{◌≡◌, ℕ, ◌<◌, ◌≤◌, List, None, Option, slice_set, refl};
+ghost use Rattle.drafts.specs.declared.stage.NetSizes.{NetSizes};
+ghost use Rattle.drafts.specs.declared.tables.Tables.{Tables};
+ghost use Rattle.drafts.specs.declared.fault.DraftFault.{DraftFault};
 ghost use Rattle.drafts.specs.Faults.{faulted};
-ghost use Rattle.drafts.specs.Entries.{sizes_fault, duration_fault, ends_fault, terms_fault, room_fault};
+ghost use Rattle.drafts.specs.Entries.{sizes_fault, duration_fault, ends_fault, terms_fault, room_fault, IsColumn};
 
 use crate::fault::DraftFault;
 use crate::numbers::Number;
 use crate::stage::NetSizes;
+use crate::tables::Tables;
 use nets::{LinkEnds, LinkTerms};
 
 pub(crate) fn check_sizes(sizes: NetSizes) -> Result<(), DraftFault>
@@ -18,39 +22,153 @@ pub(crate) fn check_sizes(sizes: NetSizes) -> Result<(), DraftFault>
     Ok(())
 }
 
-pub(crate) fn check_duration(duration: u16) -> Result<(), DraftFault>
-    ensures { faulted result ≡ duration_fault duration }
-{
-    Number::Duration.judge(u64::from(duration))?;
-    Ok(())
+// An entry of which there is one for each station or each link. The tables have a column for each kind.
+pub trait Entry: Copy {
+    // How many entries the sizes ask for, and how many the column has room for.
+    ghost count: { NetSizes → ℕ };
+
+    ghost room: { ℕ };
+
+    // Its fault by itself, where there are so many stations, and its fault at its place.
+    ghost fault: { ℕ → Self → Option DraftFault };
+
+    ghost place_fault: { ℕ → Self → Option DraftFault };
+
+    // Where the entries stand, and the tables with others there.
+    ghost column: { Tables → List Self };
+
+    ghost with_column: { Tables → List Self → Tables };
+
+    fn count(sizes: NetSizes) -> u8
+        ensures { result ≡ count sizes };
+
+    fn check(self, stations: u8) -> Result<(), DraftFault>
+        ensures { faulted result ≡ fault stations self };
+
+    fn check_place(self, place: u8) -> Result<(), DraftFault>
+        ensures { faulted result ≡ place_fault place self };
+
+    fn store(self, tables: &mut Tables, place: u8)
+        requires { place < room }
+        ensures { tables.new ≡ with_column tables.old (slice_set (column tables.old) place self) };
+
+    ghost fits: { (s : NetSizes) → s.stations ≤ 64 → s.links ≤ 128 → count s ≤ room };
+
+    ghost apart: { IsColumn column with_column };
 }
 
-pub(crate) fn check_ends(stations: u8, ends: LinkEnds) -> Result<(), DraftFault>
-    ensures { faulted result ≡ ends_fault stations ends }
-{
-    Number::From(stations).judge(u64::from(ends.from))?;
-    Number::To(stations).judge(u64::from(ends.to))?;
-    Ok(())
-}
+// A station's duration.
+impl Entry for u16 {
+    ghost count = { λ s. s.stations };
 
-pub(crate) fn check_terms(terms: LinkTerms) -> Result<(), DraftFault>
-    ensures { faulted result ≡ terms_fault terms }
-{
-    Number::Produced.judge(u64::from(terms.produced))?;
-    Number::Consumed.judge(u64::from(terms.consumed))?;
-    Number::Stock.judge(u64::from(terms.stock))?;
-    if let Some(c) = terms.capacity {
-        Number::Capacity.judge(u64::from(c))?;
+    ghost room = { 64 };
+
+    ghost fault = { λ n d. duration_fault d };
+
+    ghost place_fault = { λ i d. None };
+
+    ghost column = { λ t. t.durations };
+
+    ghost with_column = { λ t xs. record { durations = xs; ends = t.ends; terms = t.terms } };
+
+    ghost fits = { λ s m n. m };
+
+    ghost apart = { record { got = λ t xs. refl; last = λ t xs ys. refl; own = λ t. refl } };
+
+    fn count(sizes: NetSizes) -> u8 {
+        sizes.stations
     }
-    Ok(())
+
+    fn check(self, _stations: u8) -> Result<(), DraftFault> {
+        Number::Duration.judge(u64::from(self))?;
+        Ok(())
+    }
+
+    fn check_place(self, _place: u8) -> Result<(), DraftFault> {
+        Ok(())
+    }
+
+    fn store(self, tables: &mut Tables, place: u8) {
+        tables.durations[place as usize] = self;
+    }
 }
 
-// That the capacity of the link of this number is not below its stock.
-pub(crate) fn check_room(link: u8, terms: LinkTerms) -> Result<(), DraftFault>
-    ensures { faulted result ≡ room_fault link terms }
-{
-    match terms.capacity {
-        Some(c) if c < terms.stock => Err(DraftFault::Capacity(link)),
-        _ => Ok(()),
+impl Entry for LinkEnds {
+    ghost count = { λ s. s.links };
+
+    ghost room = { 128 };
+
+    ghost fault = { ends_fault };
+
+    ghost place_fault = { λ i e. None };
+
+    ghost column = { λ t. t.ends };
+
+    ghost with_column = { λ t xs. record { durations = t.durations; ends = xs; terms = t.terms } };
+
+    ghost fits = { λ s m n. n };
+
+    ghost apart = { record { got = λ t xs. refl; last = λ t xs ys. refl; own = λ t. refl } };
+
+    fn count(sizes: NetSizes) -> u8 {
+        sizes.links
+    }
+
+    fn check(self, stations: u8) -> Result<(), DraftFault> {
+        Number::From(stations).judge(u64::from(self.from))?;
+        Number::To(stations).judge(u64::from(self.to))?;
+        Ok(())
+    }
+
+    fn check_place(self, _place: u8) -> Result<(), DraftFault> {
+        Ok(())
+    }
+
+    fn store(self, tables: &mut Tables, place: u8) {
+        tables.ends[place as usize] = self;
+    }
+}
+
+impl Entry for LinkTerms {
+    ghost count = { λ s. s.links };
+
+    ghost room = { 128 };
+
+    ghost fault = { λ n t. terms_fault t };
+
+    ghost place_fault = { room_fault };
+
+    ghost column = { λ t. t.terms };
+
+    ghost with_column = { λ t xs. record { durations = t.durations; ends = t.ends; terms = xs } };
+
+    ghost fits = { λ s m n. n };
+
+    ghost apart = { record { got = λ t xs. refl; last = λ t xs ys. refl; own = λ t. refl } };
+
+    fn count(sizes: NetSizes) -> u8 {
+        sizes.links
+    }
+
+    fn check(self, _stations: u8) -> Result<(), DraftFault> {
+        Number::Produced.judge(u64::from(self.produced))?;
+        Number::Consumed.judge(u64::from(self.consumed))?;
+        Number::Stock.judge(u64::from(self.stock))?;
+        if let Some(c) = self.capacity {
+            Number::Capacity.judge(u64::from(c))?;
+        }
+        Ok(())
+    }
+
+    // The capacity of the link is not below its stock.
+    fn check_place(self, place: u8) -> Result<(), DraftFault> {
+        match self.capacity {
+            Some(c) if c < self.stock => Err(DraftFault::Capacity(place)),
+            _ => Ok(()),
+        }
+    }
+
+    fn store(self, tables: &mut Tables, place: u8) {
+        tables.terms[place as usize] = self;
     }
 }

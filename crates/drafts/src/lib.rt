@@ -2,7 +2,7 @@
 #![tactic(auto)]
 
 pub mod check;
-mod entries;
+pub mod entries;
 pub mod fault;
 pub mod numbers;
 pub mod stage;

@@ -55,7 +55,7 @@ capacity_dash x y h d e s =
     }
 
 -- a number in its place
-module _ (x y : Reader) (no : lexeme_at (rest x) ≡ Sign Dash → ⊥) where
+module _ (x y : Reader) (no : lexeme_at (rest x) ≡ Some (Sign Dash) → ⊥) where
   by_number : (link stock : ℕ) (k : Option ℕ → NetForm) → form.run x.at (capacity_entry link stock k) (rest x) ≡ form.run x.at (asked (room_fault link stock) (λ c. k (Some c))) (rest x)
   by_number link stock k = run_capacity_number x.at _ k x.text.now no
 

@@ -2,14 +2,11 @@
 use Rattle.std.proofs.Common.{◌≡◌, ℕ, List, drop, Ok, Err, Result, MatchResult, sym, ap, ◌∙◌, subst}
 use Rattle.std.specs.Result.{IsErrAnd}
 use Rattle.drafts.specs.declared.fault.DraftFault.{DraftFault}
-use Rattle.drafts.specs.declared.stage.moves.Left.{Left}
+use Rattle.drafts.specs.declared.stage.Left.{Left}
 use Rattle.forms.specs.Form.{broken, run}
-use Rattle.texts.specs.declared.fault.Word.{Word}
 use Rattle.texts.specs.declared.fault.TextFault.{TextFault}
-use Rattle.texts.specs.declared.fault.TextFault.TheVariants.{Form}
 use Rattle.texts.specs.declared.reader.Reader.{Reader}
-use Rattle.texts.specs.Lexemes.{word_of}
-use Rattle.texts.specs.Faults.{Worded}
+use Rattle.texts.specs.Faults.{Worded, said}
 use Rattle.texts.specs.NetForm.{NetForm}
 use Rattle.texts.specs.Reading.{rest, Goes, Halts, Found, filled, Started, Placed, Moved}
 
@@ -38,10 +35,9 @@ pub find_filled : {X : Type 0} (x : Reader) (f : NetForm) (r : Result (Unit {0})
 find_filled x f (Ok _) v k y h = h
 find_filled x f (Err e) v k y h = h
 
--- the form is left at p
-pub halts_form : (x : Reader) (f : NetForm) (p : ℕ) (w : Word) → run x.at f (rest x) ≡ broken p → (w.bytes.now ≡ word_of (drop p x.text.now)) × (w.at ≡ p) → Halts x f (Form w)
-halts_form x f p w e h =
-    record { runs = e ∙ ap broken (sym h.1); worded = h.0 ∙ ap (λ n. word_of (drop n x.text.now)) (sym h.1) }
+-- the form is left at x
+pub halts_form : (x : Reader) (f : NetForm) (e : TextFault) → run x.at f (rest x) ≡ broken x.at → said e ≡ broken x.at → Worded x.text.now e → Halts x f e
+halts_form x f e r s w = record { runs = r ∙ sym s; worded = w }
 
 pub goes_start : (f : NetForm) (x : Reader) (t : List ℕ) → Started x t → run 0 f t ≡ run x.at f (rest x)
 goes_start f x t s =

@@ -12,7 +12,6 @@ use Rattle.texts.specs.Faults.{Worded}
 use Rattle.texts.specs.NetText.{Entries}
 use Rattle.texts.specs.NetForm.{net_form}
 use Rattle.texts.specs.Reading.{rest, Started, Goes, Halts}
-use Rattle.texts.specs.Rows.{without_durations, without_ends, without_terms}
 use Rattle.texts.specs.Outcomes.{entries_of, BlankBehind, Fills}
 use Rattle.texts.proofs.Chains.{goes_start}
 
@@ -22,7 +21,9 @@ fills_err x t s tables r e p h =
 
 -- the sizes, and the tables from line to line
 module _ (s : NetSizes) (t0 t1 t2 t3 : Tables) (b : t0 ≡ blank)
-    (e1 : without_durations t1 ≡ without_durations t0) (e2 : without_ends t2 ≡ without_ends t1) (e3 : without_terms t3 ≡ without_terms t2)
+    (e1 : t1 ≡ record { durations = t1.durations; ends = t0.ends; terms = t0.terms })
+    (e2 : t2 ≡ record { durations = t1.durations; ends = t2.ends; terms = t1.terms })
+    (e3 : t3 ≡ record { durations = t2.durations; ends = t2.ends; terms = t3.terms })
     (d1 : drop s.stations t1.durations ≡ drop s.stations t0.durations)
     (d2 : drop s.links t2.ends ≡ drop s.links t1.ends)
     (d3 : drop s.links t3.terms ≡ drop s.links t2.terms) where

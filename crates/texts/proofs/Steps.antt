@@ -1,11 +1,14 @@
 -- One step of a reading, at a place of the text.
-use Rattle.std.proofs.Common.{◌≡◌, ℕ, ◌+◌, ◌-◌, ◌*◌, ◌^◌, ◌<◌, ◌≤◌, min, Bool, true, false, cond, eqb, List, [], ◌∷◌, length, get_or, drop, Some, None, Option, sym, refl, ap, ◌∙◌, ⊎_elim, arith}
+use Rattle.std.proofs.Common.{◌≡◌, ℕ, ◌+◌, ◌-◌, ◌*◌, ◌^◌, ◌<◌, ◌≤◌, min, Bool, true, false, cond, eqb, List, [], ◌∷◌, length, get_or, drop, Some, None, Option, sym, refl, ap, ◌∙◌, ⊎_elim, ◌⊎◌, inl, inr, MatchOption, Bor, arith}
+use Rattle.std.specs.List.{HoldsAt}
+use Rattle.std.specs.Option.{option_eq}
 use Rattle.std.proofs.lemmas.List.{at_drop_more, at_drop_all}
-use Rattle.std.proofs.lemmas.Bool.{cases_Bool, cases_lt, eq-eqb, ne_eqb, both_ways}
+use Rattle.std.proofs.lemmas.Bool.{cases_Bool, cases_lt, eq-eqb, eqb-true, eqb-false, ne_eqb, both_ways}
 use Rattle.std.proofs.lemmas.Bool.Decides.{nat_tests}
+use Rattle.handover.proofs.Options.{none_some, some_same}
 use Rattle.texts.specs.declared.lexer.Mark.{Mark}
 use Rattle.texts.specs.declared.lexer.Mark.TheVariants.{Space, Newline, Arrow, Colon, Dash}
-use Rattle.texts.specs.declared.lexer.Lexeme.TheVariants.{Sign, Digit, End}
+use Rattle.texts.specs.declared.lexer.Lexeme.TheVariants.{Sign, Digit}
 use Rattle.std.specs.List.{prefix_len}
 use Rattle.std.proofs.lemmas.List.Sums.{prefix_len-drop_yes}
 use Rattle.forms.specs.Marks.{is_digit, digit_first, value_on, none, led, number, number_at}
@@ -39,42 +42,42 @@ byte_sign b Arrow e = grind (arith, nat_tests)
 byte_sign b Colon e = grind (arith, nat_tests)
 byte_sign b Dash e = grind (arith, nat_tests)
 
-pub lexeme_here : (at : ℕ) (t : List ℕ) → at < length t → lexeme_at (drop at t) ≡ lexeme_of (get_or t at 0)
+pub lexeme_here : (at : ℕ) (t : List ℕ) → at < length t → lexeme_at (drop at t) ≡ Some (lexeme_of (get_or t at 0))
 lexeme_here at t h = at_drop_more lexeme_at t at 0 h
 
-pub lexeme_end : (at : ℕ) (t : List ℕ) → length t ≤ at → lexeme_at (drop at t) ≡ End
+pub lexeme_end : (at : ℕ) (t : List ℕ) → length t ≤ at → lexeme_at (drop at t) ≡ None
 lexeme_end at t h = at_drop_all lexeme_at t at h
 
 -- a sign at a place: its byte stands there
-pub sign_here : (at : ℕ) (t : List ℕ) (m : Mark) → lexeme_at (drop at t) ≡ Sign m → (at < length t) × (get_or t at 0 ≡ byte_of m)
+pub sign_here : (at : ℕ) (t : List ℕ) (m : Mark) → lexeme_at (drop at t) ≡ Some (Sign m) → (at < length t) × (get_or t at 0 ≡ byte_of m)
 sign_here at t m e =
     ⊎_elim
-    (λ h. (h, byte_sign (get_or t at 0) m (sym (lexeme_here at t h) ∙ e)))
+    (λ h. (h, byte_sign (get_or t at 0) m (some_same _ _ (sym (lexeme_here at t h) ∙ e))))
     (λ h. let n = lexeme_end at t h in let z : ◌≡◌ {A = ℕ} 0 1 = cc in absurd (omega arith))
     (cases_lt at (length t))
 
-pub run_sign_no : {F A : Type 0} (at : ℕ) (m : Mark) (k : Form F A) (t : List ℕ) → (lexeme_at (drop at t) ≡ Sign m → ⊥) → run at (mark (byte_of m) k) (drop at t) ≡ broken at
+pub run_sign_no : {F A : Type 0} (at : ℕ) (m : Mark) (k : Form F A) (t : List ℕ) → (lexeme_at (drop at t) ≡ Some (Sign m) → ⊥) → run at (mark (byte_of m) k) (drop at t) ≡ broken at
 run_sign_no at m k t n =
     ⊎_elim
-    (λ h. run_mark_no at (byte_of m) k t h (λ e. n (lexeme_here at t h ∙ ap lexeme_of e ∙ sign_byte m)))
+    (λ h. run_mark_no at (byte_of m) k t h (λ e. n (lexeme_here at t h ∙ ap Some (ap lexeme_of e ∙ sign_byte m))))
     (λ h. run_mark_end at (byte_of m) k t h)
     (cases_lt at (length t))
 
 pub digit_lexeme : (b d : ℕ) → lexeme_of b ≡ Digit d → (is_digit b ≡ true) × (d ≡ b - 48)
 digit_lexeme b d e = grind (arith, nat_tests)
 
-pub digit_here : (at : ℕ) (t : List ℕ) (d : ℕ) → lexeme_at (drop at t) ≡ Digit d → (at < length t) × (is_digit (get_or t at 0) ≡ true) × (d ≡ get_or t at 0 - 48)
+pub digit_here : (at : ℕ) (t : List ℕ) (d : ℕ) → lexeme_at (drop at t) ≡ Some (Digit d) → (at < length t) × (is_digit (get_or t at 0) ≡ true) × (d ≡ get_or t at 0 - 48)
 digit_here at t d e =
     ⊎_elim
-    (λ h. let y = digit_lexeme (get_or t at 0) d (sym (lexeme_here at t h) ∙ e) in (h, y.0, y.1))
+    (λ h. let y = digit_lexeme (get_or t at 0) d (some_same _ _ (sym (lexeme_here at t h) ∙ e)) in (h, y.0, y.1))
     (λ h. let n = lexeme_end at t h in let z : ◌≡◌ {A = ℕ} 0 1 = cc in absurd (omega arith))
     (cases_lt at (length t))
 
-lexeme_digit : (cs : List ℕ) → digit_first cs ≡ true → (d : ℕ) × (lexeme_at cs ≡ Digit d)
+lexeme_digit : (cs : List ℕ) → digit_first cs ≡ true → (d : ℕ) × (lexeme_at cs ≡ Some (Digit d))
 lexeme_digit [] e = absurd (both_ways false refl e)
 lexeme_digit (c ∷ cs) e = (c - 48, grind (arith, nat_tests))
 
-pub no_digit_here : (cs : List ℕ) → ((d : ℕ) → lexeme_at cs ≡ Digit d → ⊥) → digit_first cs ≡ false
+pub no_digit_here : (cs : List ℕ) → ((d : ℕ) → lexeme_at cs ≡ Some (Digit d) → ⊥) → digit_first cs ≡ false
 no_digit_here cs n =
     ⊎_elim (λ y. let d = lexeme_digit cs y in absurd (n d.0 d.1)) (λ e. e) (cases_Bool (digit_first cs))
 
@@ -125,24 +128,32 @@ run_capacity_dash {F} {A} at j k t h e =
     let g : Bool → Outcome F A = λ x. elim x [ true ↦ run (at + 1) (k None) (drop (at + 1) t) | false ↦ run at (numb j (λ v. k (Some v))) (get_or t at 0 ∷ drop (at + 1) t) ] in
     at_drop_more (run at (dash_or j k)) t at 0 h ∙ ap g (eq-eqb (get_or t at 0) 45 e)
 
-no_dash : {F A : Type 0} (at : ℕ) (j : ℕ → Verdict F) (k : Option ℕ → Form F A) (cs : List ℕ) → (lexeme_at cs ≡ Sign Dash → ⊥) → run at (dash_or j k) cs ≡ run at (numb j (λ v. k (Some v))) cs
+no_dash : {F A : Type 0} (at : ℕ) (j : ℕ → Verdict F) (k : Option ℕ → Form F A) (cs : List ℕ) → (lexeme_at cs ≡ Some (Sign Dash) → ⊥) → run at (dash_or j k) cs ≡ run at (numb j (λ v. k (Some v))) cs
 unfolding number_at
 no_dash at j k [] n = refl
 no_dash {F} {A} at j k (c ∷ cs) n =
     let g : Bool → Outcome F A = λ x. elim x [ true ↦ run (at + 1) (k None) cs | false ↦ run at (numb j (λ v. k (Some v))) (c ∷ cs) ] in
-    ap g (ne_eqb c 45 (λ e. n (ap lexeme_of e)))
+    ap g (ne_eqb c 45 (λ e. n (ap (λ b. Some (lexeme_of b)) e)))
 
-pub run_capacity_number : {F A : Type 0} (at : ℕ) (j : ℕ → Verdict F) (k : Option ℕ → Form F A) (t : List ℕ) → (lexeme_at (drop at t) ≡ Sign Dash → ⊥) → run at (dash_or j k) (drop at t) ≡ run at (numb j (λ v. k (Some v))) (drop at t)
+pub run_capacity_number : {F A : Type 0} (at : ℕ) (j : ℕ → Verdict F) (k : Option ℕ → Form F A) (t : List ℕ) → (lexeme_at (drop at t) ≡ Some (Sign Dash) → ⊥) → run at (dash_or j k) (drop at t) ≡ run at (numb j (λ v. k (Some v))) (drop at t)
 run_capacity_number at j k t n = no_dash at j k (drop at t) n
 
-lexeme_some : (b : ℕ) → lexeme_of b ≡ End → ⊥
-lexeme_some b e = let z : ◌≡◌ {A = ℕ} 0 1 = grind (arith, nat_tests) in omega arith
-
 -- the end of a text
-pub run_done_end : {F A : Type 0} (at : ℕ) (a : A) (cs : List ℕ) → lexeme_at cs ≡ End → run {F = F} at (done a) cs ≡ got a
+pub run_done_end : {F A : Type 0} (at : ℕ) (a : A) (cs : List ℕ) → lexeme_at cs ≡ None → run {F = F} at (done a) cs ≡ got a
 run_done_end at a [] e = refl
-run_done_end at a (c ∷ cs) e = absurd (lexeme_some c e)
+run_done_end at a (c ∷ cs) e = absurd (none_some _ (sym e))
 
-pub run_done_more : {F A : Type 0} (at : ℕ) (a : A) (cs : List ℕ) → (lexeme_at cs ≡ End → ⊥) → run {F = F} at (done a) cs ≡ broken at
+pub run_done_more : {F A : Type 0} (at : ℕ) (a : A) (cs : List ℕ) → (lexeme_at cs ≡ None → ⊥) → run {F = F} at (done a) cs ≡ broken at
 run_done_more at a [] n = absurd (n refl)
 run_done_more at a (c ∷ cs) n = refl
+
+-- whether the byte at a place is b, where `get` looks for it
+pub byte_is : (o : Option (Bor ℕ)) (b : Bor ℕ) (t : List ℕ) (i : ℕ) → MatchOption o (length t ≤ i) (λ x. (i < length t) × HoldsAt (λ y. x.now ≡ y) t i)
+    → option_eq (λ x y. eqb x.now y.now) o (Some b) ≡ true → (i < length t) × (get_or t i 0 ≡ b.now)
+byte_is None b t i m e = absurd (both_ways false refl e)
+byte_is (Some x) b t i m e = (m.0, sym (m.1 0) ∙ eqb-true x.now b.now e)
+
+pub byte_is_not : (o : Option (Bor ℕ)) (b : Bor ℕ) (t : List ℕ) (i : ℕ) → MatchOption o (length t ≤ i) (λ x. (i < length t) × HoldsAt (λ y. x.now ≡ y) t i)
+    → option_eq (λ x y. eqb x.now y.now) o (Some b) ≡ false → (length t ≤ i) ⊎ ((i < length t) × (get_or t i 0 ≡ b.now → ⊥))
+byte_is_not None b t i m e = inl m
+byte_is_not (Some x) b t i m e = inr (m.0, λ h. eqb-false x.now b.now e (m.1 0 ∙ h))

@@ -1,11 +1,11 @@
 -- What the lexer makes of a byte: the five marks, the digits, and all others.
-use Rattle.std.specs.Prelude.{ℕ, ◌-◌, Bool, cond, not, ◌||◌, List, [], ◌∷◌, take, ◌==◌}
-use Rattle.std.specs.List.{prefix_len}
+use Rattle.std.specs.Prelude.{ℕ, ◌-◌, Bool, cond, ◌||◌, List, [], ◌∷◌, take, ◌==◌, Some, None, Option}
+use Rattle.std.specs.List.{position_or_len}
 use Rattle.forms.specs.Marks.{is_digit}
 use Rattle.texts.specs.declared.lexer.Mark.{Mark}
 use Rattle.texts.specs.declared.lexer.Mark.TheVariants.{Space, Newline, Arrow, Colon, Dash}
 use Rattle.texts.specs.declared.lexer.Lexeme.{Lexeme}
-use Rattle.texts.specs.declared.lexer.Lexeme.TheVariants.{Sign, Digit, Other, End}
+use Rattle.texts.specs.declared.lexer.Lexeme.TheVariants.{Sign, Digit, Other}
 
 -- the byte of each mark
 abbrev pub byte_of : Mark → ℕ
@@ -22,18 +22,15 @@ lexeme_of b =
     (cond (b == 62) (Sign Arrow)
     (cond (b == 58) (Sign Colon) (cond (b == 45) (Sign Dash) (cond (is_digit b) (Digit (b - 48)) Other)))))
 
--- what stands at the front of what is left
-abbrev pub lexeme_at : List ℕ → Lexeme
-lexeme_at [] = End
-lexeme_at (c ∷ cs) = lexeme_of c
+-- what stands at the front of what is left, if anything does
+abbrev pub lexeme_at : List ℕ → Option Lexeme
+lexeme_at [] = None
+lexeme_at (c ∷ cs) = Some (lexeme_of c)
 
 -- the space, the newline, '>', ':' and '-'
-abbrev pub is_mark_lem : ℕ → Bool
-is_mark_lem b = b == 32 || (b == 10 || (b == 62 || (b == 58 || b == 45)))
-
-abbrev pub no_mark : ℕ → Bool
-no_mark b = not (is_mark_lem b)
+abbrev pub is_mark : ℕ → Bool
+is_mark b = b == 32 || (b == 10 || (b == 62 || (b == 58 || b == 45)))
 
 -- what stands before the first mark, or all of it
 abbrev pub word_of : List ℕ → List ℕ
-word_of bs = take (prefix_len no_mark bs) bs
+word_of bs = take (position_or_len is_mark bs) bs

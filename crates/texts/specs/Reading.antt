@@ -1,7 +1,7 @@
 -- What a part of the reader does, as a part of the form.
 use Rattle.std.specs.Prelude.{◌≡◌, ℕ, ◌+◌, ◌-◌, ◌^◌, min, List, drop, IfOk, Some, None, Ok, Err, Option, Result, MatchResult}
 use Rattle.drafts.specs.declared.fault.DraftFault.{DraftFault}
-use Rattle.drafts.specs.declared.stage.moves.Left.{Left}
+use Rattle.drafts.specs.declared.stage.Left.{Left}
 use Rattle.drafts.specs.Entries.{capacity_fault, below_stock}
 use Rattle.forms.specs.Marks.{Lexed, none, led, number}
 use Rattle.forms.specs.Form.{done, got, broken, refused, run}

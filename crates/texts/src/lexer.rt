@@ -1,8 +1,8 @@
-ghost use Rattle.std.specs.Prelude.{◌≡◌};
-ghost use Rattle.texts.specs.Lexemes.{lexeme_of, is_mark_lem};
+ghost use Rattle.std.specs.Prelude.{◌≡◌, position};
+ghost use Rattle.texts.specs.Lexemes.{lexeme_of, is_mark};
 
 // The marks of a text.
-#[derive(Clone, Copy, PartialEq, Eq)]
+#[derive(Clone, Copy, Debug, PartialEq, Eq)]
 pub enum Mark {
     Space,
     Newline,
@@ -11,13 +11,12 @@ pub enum Mark {
     Dash,
 }
 
-// One byte of a text, or its end.
-#[derive(Clone, Copy, PartialEq, Eq)]
+// One byte of a text.
+#[derive(Clone, Copy, Debug, PartialEq, Eq)]
 pub enum Lexeme {
     Sign(Mark),
     Digit(u8),
     Other,
-    End,
 }
 
 // What a byte is.
@@ -35,12 +34,11 @@ pub fn lex(b: u8) -> Lexeme
     }
 }
 
-// Whether a byte ends a word.
-pub fn is_mark(b: u8) -> bool
-    ensures { result ≡ is_mark_lem b }
+// Where the first mark stands.
+pub fn first_mark(bytes: &[u8]) -> Option<usize>
+    ensures { result ≡ position is_mark bytes.now }
 {
-    match lex(b) {
-        Lexeme::Sign(_) => true,
-        _ => false,
-    }
+    bytes
+        .iter()
+        .position(|b| matches!(lex(*b), Lexeme::Sign(_)))
 }

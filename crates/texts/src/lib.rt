@@ -44,17 +44,11 @@ fn fill<'a>(text: &'a [u8], tables: &mut Tables) -> Result<Filled, TextFault<'a>
     let mut sizes = Sizes::new();
     let counts = reader.sizes(&mut sizes)?;
     let mut durations = reader.moved(sizes.next())?;
-    reader.line(
-        b"dur",
-        counts.stations,
-        counts.stations,
-        &mut durations,
-        tables,
-    )?;
+    reader.line(b"dur", counts, &mut durations, tables)?;
     let mut ends = reader.moved(durations.next())?;
-    reader.line(b"ends", counts.stations, counts.links, &mut ends, tables)?;
+    reader.line(b"ends", counts, &mut ends, tables)?;
     let mut terms = reader.moved(ends.next())?;
-    reader.line(b"terms", counts.stations, counts.links, &mut terms, tables)?;
+    reader.line(b"terms", counts, &mut terms, tables)?;
     let filled = reader.moved(terms.next())?;
     reader.end()?;
     Ok(filled)

@@ -1,16 +1,18 @@
 // The smallest parts of a text: a mark, a word, a number, the end.
-ghost use Rattle.std.specs.Prelude.{◌≡◌, ℕ, ◌+◌, ◌≤◌, length, drop};
-ghost use Rattle.forms.specs.Marks.{number_at};
-ghost use Rattle.forms.specs.Form.{mark};
+ghost use Rattle.std.specs.Prelude.{◌≡◌, ℕ, ◌+◌, ◌≤◌, false, length, drop, MatchOption};
+ghost use Rattle.forms.specs.Marks.{digit_first, number_at};
+ghost use Rattle.forms.specs.Form.{mark, broken as broken_lem};
 ghost use Rattle.forms.specs.Lines.{word};
+ghost use Rattle.texts.specs.declared.lexer.Lexeme.TheVariants.{Digit};
 ghost use Rattle.texts.specs.Lexemes.{lexeme_at, byte_of, word_of};
+ghost use Rattle.texts.specs.Faults.{Worded, said};
 ghost use Rattle.texts.specs.Reading.{rest, Reads, Numbered, Started, Ended, Placed, Moved};
 
 use crate::fault::{TextFault, Word};
-use crate::lexer::{Lexeme, Mark, is_mark, lex};
+use crate::lexer::{Lexeme, Mark, first_mark, lex};
 use crate::reader::Reader;
 use drafts::fault::DraftFault;
-use drafts::stage::moves::Left;
+use drafts::stage::Left;
 
 impl<'a> Reader<'a> {
     pub(crate) fn new(text: &'a [u8]) -> Reader<'a>
@@ -19,15 +21,11 @@ impl<'a> Reader<'a> {
         Reader { text, at: 0 }
     }
 
-    // What stands here.
-    pub(crate) fn peek(&self) -> Lexeme
+    // What stands here, if the text goes on.
+    pub(crate) fn peek(&self) -> Option<Lexeme>
         ensures { result ≡ lexeme_at (rest self.now) }
     {
-        if self.at < self.text.len() {
-            lex(self.text[self.at])
-        } else {
-            Lexeme::End
-        }
+        self.text.get(self.at).map(|b| lex(*b))
     }
 
     // The word that begins at `at`: it runs to the next mark, or to the end.
@@ -35,14 +33,20 @@ impl<'a> Reader<'a> {
         requires { at ≤ length self.now.text.now }
         ensures { (result.bytes.now ≡ word_of (drop at self.now.text.now)) × (result.at ≡ at) }
     {
-        let mut end = at;
-        while end < self.text.len() && !is_mark(self.text[end]) {
-            end += 1;
-        }
+        let rest = &self.text[at..];
+        let end = first_mark(rest).unwrap_or(rest.len());
         Word {
-            bytes: &self.text[at..end],
+            bytes: &rest[..end],
             at,
         }
+    }
+
+    // The form is left here.
+    fn broken(&self) -> TextFault<'a>
+        ensures said { said result ≡ broken_lem self.now.at }
+        ensures worded { Worded self.now.text.now result }
+    {
+        TextFault::Form(self.word(self.at))
     }
 
     // The draft's answer about the number that begins at `at`: its fault is told with the number's word.
@@ -71,11 +75,11 @@ impl<'a> Reader<'a> {
     pub(crate) fn mark(&mut self, m: Mark) -> Result<(), TextFault<'a>>
         ensures { Reads self.old (λ k. mark (byte_of m) (k tt)) result self.new }
     {
-        if self.peek() == Lexeme::Sign(m) {
+        if self.peek() == Some(Lexeme::Sign(m)) {
             self.at += 1;
             Ok(())
         } else {
-            Err(TextFault::Form(self.word(self.at)))
+            Err(self.broken())
         }
     }
 
@@ -84,12 +88,22 @@ impl<'a> Reader<'a> {
         ensures { Reads self.old (λ k. word letters.now (k tt)) result self.new }
     {
         for b in letters {
-            if self.at == self.text.len() || self.text[self.at] != *b {
-                return Err(TextFault::Form(self.word(self.at)));
+            if self.text.get(self.at) != Some(b) {
+                return Err(self.broken());
             }
             self.at += 1;
         }
         Ok(())
+    }
+
+    // The digit that stands here, if one does.
+    fn digit(&self) -> Option<u8>
+        ensures { MatchOption result (digit_first (rest self.now) ≡ false) (λ d. lexeme_at (rest self.now) ≡ Some (Digit d)) }
+    {
+        let Lexeme::Digit(d) = self.peek()? else {
+            return None;
+        };
+        Some(d)
     }
 
     // A number, or the largest `u64` where it is larger.
@@ -97,14 +111,14 @@ impl<'a> Reader<'a> {
         ensures reads { Numbered (number_at (rest self.old)) self.old result self.new }
         ensures same { self.new.text.now ≡ self.old.text.now }
     {
-        let Lexeme::Digit(first) = self.peek() else {
-            return Err(TextFault::Form(self.word(self.at)));
+        let Some(first) = self.digit() else {
+            return Err(self.broken());
         };
         self.at += 1;
         let mut n = first as u64;
-        while let Lexeme::Digit(d) = self.peek() {
+        while let Some(d) = self.digit() {
             if first == 0 {
-                return Err(TextFault::Form(self.word(self.at)));
+                return Err(self.broken());
             }
             n = n.saturating_mul(10).saturating_add(d as u64);
             self.at += 1;
@@ -117,8 +131,8 @@ impl<'a> Reader<'a> {
         ensures { Ended self.now result }
     {
         match self.peek() {
-            Lexeme::End => Ok(()),
-            _ => Err(TextFault::Form(self.word(self.at))),
+            None => Ok(()),
+            Some(_) => Err(self.broken()),
         }
     }
 }

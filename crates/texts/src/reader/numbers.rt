@@ -21,7 +21,7 @@ impl<'a> Reader<'a> {
     pub(crate) fn capacity(&mut self) -> Result<Option<u16>, TextFault<'a>>
         ensures { ReadsCapacity self.old result self.new }
     {
-        if self.peek() == Lexeme::Sign(Mark::Dash) {
+        if self.peek() == Some(Lexeme::Sign(Mark::Dash)) {
             self.at += 1;
             return Ok(None);
         }

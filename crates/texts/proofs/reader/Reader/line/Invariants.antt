@@ -6,9 +6,9 @@ use Rattle.texts.proofs.reader.Reader.line.Given as goal
 
 abbrev pub invariant-loop : goal.invariant-loop
 invariant-loop g l =
-    (g.S.Rows.held l.stage ≡ l.counter)
-    × (g.S.Rows.sizes l.stage ≡ g.S.Rows.sizes l.initial.stage)
-    × (g.S.Rows.others l.tables ≡ g.S.Rows.others l.initial.tables)
-    × (drop l.count (g.S.Rows.column l.tables) ≡ drop l.count (g.S.Rows.column l.initial.tables))
-    × (length (g.S.Rows.column l.tables) ≡ length (g.S.Rows.column l.initial.tables))
-    × ((k : List g.row.S-Entry.Denot → NetForm) → Goes l.initial.self (rows (g.S.Rows.form l.stations) l.count [] k) l.self (rows (g.S.Rows.form l.stations) (l.count - l.counter) (take l.counter (g.S.Rows.column l.tables)) k))
+    (l.stage.held ≡ l.counter)
+    × (l.stage.sizes ≡ l.initial.stage.sizes)
+    × (l.tables ≡ g.E.Entry.with_column l.initial.tables (g.E.Entry.column l.tables))
+    × (drop (g.E.Entry.count l.sizes) (g.E.Entry.column l.tables) ≡ drop (g.E.Entry.count l.sizes) (g.E.Entry.column l.initial.tables))
+    × (length (g.E.Entry.column l.tables) ≡ length (g.E.Entry.column l.initial.tables))
+    × ((k : List g.row.E.Denot → NetForm) → Goes l.initial.self (rows (g.E.Row.form l.sizes.stations) (g.E.Entry.count l.sizes) [] k) l.self (rows (g.E.Row.form l.sizes.stations) ((g.E.Entry.count l.sizes) - l.counter) (take l.counter (g.E.Entry.column l.tables)) k))

@@ -118,8 +118,8 @@ pub returns : goal.returns
 returns c =
     let e : NetSizes = record { stations = c.in_ok-stations.stations; links = c.in_ok-links.links; pace = record { share = c.in_ok-share.share; unit = c.in_ok-unit.unit } } in
     let fine = sizes_fine e c.in_ok-stations.ensures.fine c.in_ok-links.ensures.fine c.in_ok-share.ensures.fine c.in_ok-unit.ensures.fine in
-    let took = took_sizes c.args.stage.now c.take.new.self e c.take.result c.placed.result _ _ c.take.ensures c.placed.ensures c.requires fine in
+    let took = took_sizes c.args.stage.now.entry e c.take.result c.placed.result _ _ _ c.take.ensures.told c.take.ensures.taken c.placed.ensures c.requires fine in
     record {
       reads = λ k. and_on (c.in_ok-name.ensures (λ _. stations k)) (and_on (c.in_ok-mark.ensures (λ _. asked (range_fault 1 1 64) (links k))) (and_on (c.in_ok-stations.ensures.reads (links k)) (and_on (c.in_ok-mark-2.ensures (λ _. asked (range_fault 2 0 128) (shares k c.in_ok-stations.stations))) (and_on (c.in_ok-links.ensures.reads (shares k c.in_ok-stations.stations)) (and_on (c.in_ok-mark-3.ensures (λ _. asked (range_fault 3 1 1_000_000) (units k c.in_ok-stations.stations c.in_ok-links.links))) (and_on (c.in_ok-share.ensures.reads (units k c.in_ok-stations.stations c.in_ok-links.links)) (and_on (c.in_ok-mark-4.ensures (λ _. asked (range_fault 4 1 10_000_000_000) (last k c.in_ok-stations.stations c.in_ok-links.links c.in_ok-share.share))) (and_on (c.in_ok-unit.ensures.reads (last k c.in_ok-stations.stations c.in_ok-links.links c.in_ok-share.share)) (c.in_ok-mark-5.ensures (λ _. k (record { stations = c.in_ok-stations.stations; links = c.in_ok-links.links; pace = record { share = c.in_ok-share.share; unit = c.in_ok-unit.unit } })))))))))));
-      kept = (took.1, took.2);
+      kept = took.1;
     }
