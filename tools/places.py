@@ -37,8 +37,9 @@ def line_of(text, at):
 
 def matches(files, pattern, flags=re.M):
     for path, text in files:
-        for m in re.finditer(pattern, plain(text), flags):
-            yield "%s:%d: %s" % (path, line_of(text, m.start(m.lastindex or 0)), " ".join(m.group(0).split()))
+        code = plain(text)
+        for m in re.finditer(pattern, code, flags):
+            yield "%s:%d: %s" % (path, line_of(code, m.end()), " ".join(m.group(0).split()))
 
 
 def functions(files):

@@ -19,7 +19,7 @@ use Rattle.texts.specs.Faults as texts_faults
 use Rattle.texts.specs.NetText.{Right}
 use Rattle.reports.specs.declared.report.ShortBuffer.{ShortBuffer}
 use Rattle.reports.specs.Bytes.{timetable_bytes, circuit_bytes, refusal_bytes}
-use Rattle.reports.specs.Steps.{step_number}
+use Rattle.nets.specs.Views.{step_number}
 use Rattle.reports.specs.Reported.{Reported}
 use Rattle.boards.specs.declared.board.Board.{Board}
 use Rattle.offers.specs.declared.refusal.Refusal.{Refusal}

@@ -1,5 +1,5 @@
 ghost use Rattle.std.specs.Prelude.{◌≡◌, ◌^◌, ◌<◌, ◌≤◌, length, All, unsigned_abs};
-ghost use Rattle.reports.specs.Steps.{step_number};
+ghost use Rattle.nets.specs.Views.{step_number};
 
 use nets::CircuitStep;
 

@@ -5,7 +5,6 @@ ghost use Rattle.boards.specs.Settling.{Settled};
 use crate::board::Board;
 use nets::CircuitStep;
 use nets::sound::SoundNet;
-use nets::timed::TimedNet;
 use offers::refusal::Refusal;
 use timing::least_timetable;
 
@@ -16,15 +15,15 @@ impl Board {
         ensures { Settled (of_net net.net) self.old list.old result self.new list.new }
     {
         match least_timetable(&net) {
-            Ok(starts) => {
-                let starts = starts.ticks;
-                self.timed = TimedNet { net, starts };
+            Ok(timed) => {
+                self.timed = timed;
                 Ok(())
             }
             Err(circuit) => {
-                let front = &mut list[0..circuit.count];
-                front.copy_from_slice(&circuit.steps[0..circuit.count]);
-                Err(Refusal::NoTimetable(circuit.count))
+                let steps = circuit.steps.as_slice();
+                let front = &mut list[..steps.len()];
+                front.copy_from_slice(steps);
+                Err(Refusal::NoTimetable(steps.len()))
             }
         }
     }
