@@ -2,82 +2,95 @@
 #![tactic(auto)]
 
 ghost use Rattle.std.specs.Prelude.{◌≡◌, ℕ, ◌+◌, ◌≤◌, min};
-ghost use Rattle.search.specs.Answer.{Whole};
+ghost use Rattle.lengths.specs.Laws.{comes_before};
 ghost use Rattle.finer.specs.Model.{no_steps, more_steps, back_steps, size_steps, below_steps};
 ghost use Rattle.std.proofs.Common.{rules};
 ghost use Rattle.finer.specs.CountedLaws.{steps_order};
 
 use lengths::{Joining, OrderedLength, Ticks};
-use search::{Edge, Outcome, Round, least_starts};
-use std::io;
-
-const MOST_STEPS: u64 = 0x7fff_ffff_ffff_ffff;
+use search::{Edge, SearchError, least_starts};
+use std::cmp::Reverse;
+use std::{fmt, io};
 
 // A length and the number of steps that it was joined from. Of two equal lengths the one with fewer steps is the greater.
-#[derive(Clone, Copy)]
+#[derive(Clone, Copy, Debug, PartialEq, Eq, PartialOrd, Ord)]
 pub struct Counted<L> {
     pub length: L,
-    pub steps: i64,
+    pub steps: Reverse<i64>,
 }
 
 impl<L: OrderedLength> Joining for Counted<L> {
-    const LARGEST: u64 = MOST_STEPS;
+    const LARGEST: u64 = if L::LARGEST < i64::LARGEST {
+        L::LARGEST
+    } else {
+        i64::LARGEST
+    };
 
-    ghost largest = { min L.Joining.largest 0x7fff_ffff_ffff_ffff };
+    ghost LARGEST = { min L.LARGEST ⟦<i64 as Joining>⟧.LARGEST };
 
-    ghost size = { size_steps L.Joining.size };
+    ghost size = { size_steps L.size };
 
-    ghost neutral = { no_steps L.Joining.neutral };
+    ghost neutral = { no_steps L.neutral };
 
-    ghost joined = { more_steps L.Joining.joined };
+    ghost joined = { more_steps L.joined };
 
-    ghost opposite = { back_steps L.Joining.opposite };
+    ghost opposite = { back_steps L.opposite };
 
     ghost joins = { Prim.search rules };
 
-    fn largest_size() -> u64 {
-        let inner = L::largest_size();
-        if inner < MOST_STEPS {
-            inner
-        } else {
-            MOST_STEPS
-        }
-    }
-
     fn measure(self) -> u64 {
-        let length = self.length.measure();
-        let steps = self.steps.unsigned_abs();
-        if length < steps { steps } else { length }
+        self.length.measure().max(self.steps.0.measure())
     }
 
     fn none() -> Counted<L> {
         Counted {
             length: L::none(),
-            steps: 0,
+            steps: Reverse(0),
         }
     }
 
     fn join(self, other: Counted<L>) -> Counted<L> {
         Counted {
             length: self.length.join(other.length),
-            steps: self.steps + other.steps,
+            steps: Reverse(self.steps.0 + other.steps.0),
         }
     }
 }
 
 impl<L: OrderedLength> OrderedLength for Counted<L> {
-    ghost below = { below_steps L.OrderedLength.below };
+    ghost orders = { steps_order L.total L.orders };
+}
 
-    ghost orders = { steps_order L.OrderedLength.orders };
+// Of two equal lengths the one with more steps comes first, as the derived order has it.
+pub fn counted_below<L: OrderedLength>(x: Counted<L>, y: Counted<L>) -> bool
+    ensures { result ≡ below_steps (comes_before L.cmp) x y }
+{
+    x < y
+}
 
-    fn is_below(self, other: Counted<L>) -> bool {
-        if self.length.is_below(other.length) {
-            true
-        } else if other.length.is_below(self.length) {
-            false
-        } else {
-            other.steps < self.steps
-        }
+// A length as it is printed.
+#[derive(Clone, Copy)]
+struct Shown<L>(L);
+
+impl fmt::Display for Shown<Ticks> {
+    fn fmt<W: fmt::Write>(&self, f: &mut fmt::Formatter<W>) -> fmt::Result {
+        let ticks = self.0.ticks;
+        write!(f, "{ticks}")
+    }
+}
+
+impl fmt::Display for Shown<(i64, i64)> {
+    fn fmt<W: fmt::Write>(&self, f: &mut fmt::Formatter<W>) -> fmt::Result {
+        let (first, second) = self.0;
+        write!(f, "{first} {second}")
+    }
+}
+
+impl fmt::Display for Shown<Counted<Ticks>> {
+    fn fmt<W: fmt::Write>(&self, f: &mut fmt::Formatter<W>) -> fmt::Result {
+        let ticks = self.0.length.ticks;
+        let steps = self.0.steps.0;
+        write!(f, "{ticks}, steps {steps}")
     }
 }
 
@@ -96,69 +109,31 @@ fn step(from: usize, to: usize, ticks: i64) -> Edge<Counted<Ticks>> {
         to,
         Counted {
             length: Ticks { ticks },
-            steps: 1,
+            steps: Reverse(1),
         },
     )
 }
 
-fn write_circuit(rt: HostRuntime, round: &Round) -> io::Result<()>
-    requires { Whole round.now }
+// The starts of the first four nodes, or why there are none.
+fn write_starts<L: Copy>(rt: HostRuntime, found: Result<[L; 64], SearchError>) -> io::Result<()>
+where
+    Shown<L>: fmt::Display,
 {
-    for t in 0..round.count {
-        let e = round.edges[t];
-        println!(rt; "circuit by edge {e}")?;
-    }
-    Ok(())
-}
-
-fn write_ticks(rt: HostRuntime, edges: &[Edge<Ticks>]) -> io::Result<()> {
-    let none = Ticks { ticks: 0 };
-    let mut starts = [none; 64];
-    match least_starts(4, edges, &mut starts, &mut [none; 64]) {
-        Some(Outcome::Starts) => {
-            for y in 0..4 {
-                let start = starts[y].ticks;
-                println!(rt; "node {y} at {start}")?;
+    match found {
+        Ok(starts) => {
+            for (node, start) in starts[..4].iter().enumerate() {
+                let start = Shown(*start);
+                println!(rt; "node {node} at {start}")?;
             }
             Ok(())
         }
-        Some(Outcome::Above(round)) => write_circuit(rt, &round),
-        None => println!(rt; "cannot be asked"),
-    }
-}
-
-fn write_pairs(rt: HostRuntime, edges: &[Edge<(i64, i64)>]) -> io::Result<()> {
-    let mut starts = [(0, 0); 64];
-    match least_starts(4, edges, &mut starts, &mut [(0, 0); 64]) {
-        Some(Outcome::Starts) => {
-            for y in 0..4 {
-                let (first, second) = starts[y];
-                println!(rt; "node {y} at {first} {second}")?;
+        Err(SearchError::Above(circuit)) => {
+            for edge in circuit.iter() {
+                println!(rt; "circuit by edge {edge}")?;
             }
             Ok(())
         }
-        Some(Outcome::Above(round)) => write_circuit(rt, &round),
-        None => println!(rt; "cannot be asked"),
-    }
-}
-
-fn write_steps(rt: HostRuntime, edges: &[Edge<Counted<Ticks>>]) -> io::Result<()> {
-    let none = Counted {
-        length: Ticks { ticks: 0 },
-        steps: 0,
-    };
-    let mut starts = [none; 64];
-    match least_starts(4, edges, &mut starts, &mut [none; 64]) {
-        Some(Outcome::Starts) => {
-            for y in 0..4 {
-                let start = starts[y].length.ticks;
-                let steps = starts[y].steps;
-                println!(rt; "node {y} at {start}, steps {steps}")?;
-            }
-            Ok(())
-        }
-        Some(Outcome::Above(round)) => write_circuit(rt, &round),
-        None => println!(rt; "cannot be asked"),
+        Err(SearchError::Unsearchable) => println!(rt; "cannot be asked"),
     }
 }
 
@@ -172,53 +147,71 @@ fn write_steps(rt: HostRuntime, edges: &[Edge<Counted<Ticks>>]) -> io::Result<()
 // - A circuit of 0 ticks keeps its starts by steps as well: 0 ticks by two steps are below 0 ticks by none.
 // - An edge to node 4 of four nodes cannot be asked.
 fn main(rt: HostRuntime) -> io::Result<()> {
-    write_ticks(
+    write_starts(
         rt,
-        &[
-            ticks(0, 1, 3),
-            ticks(1, 2, 4),
-            ticks(0, 2, 7),
-            ticks(2, 0, -9),
-            ticks(2, 3, -2),
-        ],
+        least_starts(
+            4,
+            &[
+                ticks(0, 1, 3),
+                ticks(1, 2, 4),
+                ticks(0, 2, 7),
+                ticks(2, 0, -9),
+                ticks(2, 3, -2),
+            ],
+        ),
     )?;
-    write_ticks(
+    write_starts(
         rt,
-        &[
-            ticks(2, 0, -6),
-            ticks(0, 1, 3),
-            ticks(1, 2, 4),
-            ticks(2, 3, -2),
-        ],
+        least_starts(
+            4,
+            &[
+                ticks(2, 0, -6),
+                ticks(0, 1, 3),
+                ticks(1, 2, 4),
+                ticks(2, 3, -2),
+            ],
+        ),
     )?;
-    write_pairs(
+    write_starts(
         rt,
-        &[
-            edge(0, 1, (1, -5)),
-            edge(1, 2, (-1, 9)),
-            edge(0, 2, (0, 3)),
-            edge(2, 0, (0, -4)),
-            edge(2, 3, (-1, 4)),
-        ],
+        least_starts(
+            4,
+            &[
+                edge(0, 1, (1, -5)),
+                edge(1, 2, (-1, 9)),
+                edge(0, 2, (0, 3)),
+                edge(2, 0, (0, -4)),
+                edge(2, 3, (-1, 4)),
+            ],
+        ),
     )?;
-    write_pairs(
+    write_starts(
         rt,
-        &[edge(2, 0, (0, -6)), edge(0, 1, (1, 3)), edge(1, 2, (-1, 4))],
+        least_starts(
+            4,
+            &[edge(2, 0, (0, -6)), edge(0, 1, (1, 3)), edge(1, 2, (-1, 4))],
+        ),
     )?;
-    write_steps(
+    write_starts(
         rt,
-        &[
-            step(0, 1, 3),
-            step(1, 2, 4),
-            step(0, 2, 7),
-            step(2, 0, -9),
-            step(2, 3, -2),
-        ],
+        least_starts(
+            4,
+            &[
+                step(0, 1, 3),
+                step(1, 2, 4),
+                step(0, 2, 7),
+                step(2, 0, -9),
+                step(2, 3, -2),
+            ],
+        ),
     )?;
-    write_steps(
+    write_starts(
         rt,
-        &[step(2, 0, -6), step(0, 1, 3), step(1, 2, 4), step(2, 3, -2)],
+        least_starts(
+            4,
+            &[step(2, 0, -6), step(0, 1, 3), step(1, 2, 4), step(2, 3, -2)],
+        ),
     )?;
-    write_steps(rt, &[step(0, 1, 3), step(1, 0, -3)])?;
-    write_ticks(rt, &[ticks(0, 4, 1)])
+    write_starts(rt, least_starts(4, &[step(0, 1, 3), step(1, 0, -3)]))?;
+    write_starts(rt, least_starts(4, &[ticks(0, 4, 1)]))
 }

@@ -55,6 +55,25 @@ number_join = record {
   size_joined = size_sum;
 }
 
+-- An order by one length and then, where that is the same, by another keeps the laws that both keep.
+module _ {L A B : Type 0} (first : L → A) (second : L → B) (alike : (x y : L) → first x ≡ first y → second x ≡ second y → x ≡ y) where
+  module _ {joined : L → L → L} {add : A → A → A} {add' : B → B → B} (first_joined : (x y : L) → first (joined x y) ≡ add (first x) (first y)) (second_joined : (x y : L) → second (joined x y) ≡ add' (second x) (second y)) where
+    module _ {cmp : A → A → Ordering} {cmp' : B → B → Ordering} (t : IsTotalOrder cmp) (t' : IsTotalOrder cmp') (o : OrderLaws add (comes_before cmp)) (o' : OrderLaws add' (comes_before cmp')) where
+      abbrev in_turn : L → L → Ordering
+      in_turn x y = ordering_then (cmp (first x) (first y)) (cmp' (second x) (second y))
+
+      kept : (x y z : L) → (cmp (first x) (first y) ≡ Less) ⊎ ((cmp (first x) (first y) ≡ Equal) × (cmp' (second x) (second y) ≡ Less)) → in_turn (joined x z) (joined y z) ≡ Less
+      kept x y z (inl p) =
+          rw (first_joined x z, first_joined y z, less _ (o.kept (first x) (first y) (first z) (ap is_lt p)))
+      kept x y z (inr (p, q)) =
+          rw (first_joined x z, first_joined y z, second_joined x z, second_joined y z, same_of t o (first x) (first y) p, tied_itself t, less _ (o'.kept (second x) (second y) (second z) (ap is_lt q)))
+
+      pub lex_order : OrderLaws joined (comes_before in_turn)
+      lex_order =
+          order_laws (then_total (on_total first t) (on_total second t'))
+          (λ x y e. let p = both_equal _ _ e in alike x y (same_of t o _ _ p.0) (same_of t' o' _ _ p.1))
+          (λ x y z e. kept x y z (first_less _ _ e))
+
 module _ {L : Type 0} where
   both : {a b c d : L} → a ≡ c → b ≡ d → ◌≡◌ {A = L × L} (a, b) (c, d)
   both p q = cc
@@ -69,17 +88,5 @@ module _ {L : Type 0} where
     size_joined = λ x y. omega (arith, j.size_joined x.0 y.0, j.size_joined x.1 y.1);
   }
 
-  module _ {joined : L → L → L} {cmp : L → L → Ordering} (t : IsTotalOrder cmp) (o : OrderLaws joined (comes_before cmp)) where
-    abbrev pair_cmp : L × L → L × L → Ordering
-    pair_cmp x y = ordering_then (cmp x.0 y.0) (cmp x.1 y.1)
-
-    kept : (x y z : L × L) → (cmp x.0 y.0 ≡ Less) ⊎ ((cmp x.0 y.0 ≡ Equal) × (cmp x.1 y.1 ≡ Less)) → pair_cmp (more_pair joined x z) (more_pair joined y z) ≡ Less
-    kept x y z (inl p) = rw (less _ (o.kept x.0 y.0 z.0 (ap is_lt p)))
-    kept x y z (inr (p, q)) =
-        rw (same_of t o x.0 y.0 p, tied_itself t, less _ (o.kept x.1 y.1 z.1 (ap is_lt q)))
-
-    pub pair_order : OrderLaws (more_pair joined) (comes_before pair_cmp)
-    pair_order =
-        order_laws (then_total (on_total (λ x. x.0) t) (on_total (λ x. x.1) t))
-        (λ x y e. let p = both_equal _ _ e in both (same_of t o x.0 y.0 p.0) (same_of t o x.1 y.1 p.1))
-        (λ x y z e. kept x y z (first_less _ _ e))
+  pub pair_order : {joined : L → L → L} {cmp : L → L → Ordering} → IsTotalOrder cmp → OrderLaws joined (comes_before cmp) → OrderLaws (more_pair joined) (comes_before (λ x y. ordering_then (cmp x.0 y.0) (cmp x.1 y.1)))
+  pair_order t o = lex_order (λ x. x.0) (λ x. x.1) (λ x y p q. both p q) (λ x y. refl) (λ x y. refl) t t o o

@@ -161,7 +161,7 @@ module _ {L : Type 0} {neutral : L} {joined : L → L → L} {opposite : L → L
     }
 
   -- one turn of the walk, at the last of the rows that are left
-  module _ {largest nodes : ℕ} (s : Searchable neutral size largest nodes es) (vias rows less : List (List (Option ℕ))) (row : List (Option ℕ)) (push : rows ≡ less ++ (row ∷ [])) (front : rows ≡ take (length rows) vias) (x : ℕ) (c : List ℕ) (p : Walk neutral joined below es vias nodes (length rows) x c) where
+  module _ {largest nodes : ℕ} (s : Searchable neutral size largest nodes es) {vias rows : List (List (Option ℕ))} (less : List (List (Option ℕ))) (row : List (Option ℕ)) (push : rows ≡ less ++ (row ∷ [])) (front : rows ≡ take (length rows) vias) {x : ℕ} {c : List ℕ} (p : Walk neutral joined below es vias nodes (length rows) x c) where
     here : (less ≡ take (length less) vias) × (row ≡ get_or vias (length less) []) × (length rows ≡ length less + 1)
     here = last_row rows less vias row [] push front
 
@@ -180,13 +180,13 @@ module _ {L : Type 0} {neutral : L} {joined : L → L → L} {opposite : L → L
     pub walk_room : length c < 64
     walk_room = let n = p.count in let f = s.few in let l = here.2 in omega arith
 
-    module _ (e : ℕ) (via : get_or row x None ≡ Some e) where
+    module _ {e : ℕ} (via : get_or row x None ≡ Some e) where
       via_here : get_or (get_or vias (length less) []) x None ≡ Some e
       via_here = rw (← here.1) via
 
       pub walk_known : e < length es
       walk_known = walk_edge vias nodes s.inside s.few (length less) x c at_row e via_here
 
-      pub walk_next : Absent x (map (ends es) c) → (x' : ℕ) (c' : List ℕ) → x' ≡ begins es e → c' ≡ e ∷ c → Walk neutral joined below es vias nodes (length less) x' c'
-      walk_next absent x' c' at is =
+      pub walk_next : Absent x (map (ends es) c) → {x' : ℕ} {c' : List ℕ} → x' ≡ begins es e → c' ≡ e ∷ c → Walk neutral joined below es vias nodes (length less) x' c'
+      walk_next absent at is =
           rw (at, is) (walk_more vias nodes s.inside s.few (length less) x c at_row e via_here absent)

@@ -123,6 +123,7 @@ impl<'a, L: OrderedLength> Graph<'a, L> {
         requires known { All (λ e. e < length self.now.edges.now) chain.now }
         ensures { LowestAt self.now.edges.now chain.now result }
     {
+        // `min_by_key` on the numbered edges says this in one line, but what it asks of a closure with a condition was not proved (tried four ways).
         let mut place = 0;
         for (t, edge) in chain.iter().enumerate() {
             if self.begin_of(*edge) < self.begin_of(chain[place]) {

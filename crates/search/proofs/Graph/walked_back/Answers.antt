@@ -25,25 +25,25 @@ bounds-via-node g c =
 
 pub unreachable-requires : goal.unreachable-requires
 unreachable-requires g c =
-    walk_marked g.met.L.Joining.joins g.met.L.OrderedLength.orders c.args.self.now.edges.now c.args.self.now.searchable c.args.vias.now _ _ _ c.in-Some.ensures.steps c.loop-via.invariant.rows _ _ c.loop-via.invariant.walk c.in_default.is
+    walk_marked g.met.L.Joining.joins g.met.L.OrderedLength.orders c.args.self.now.edges.now c.args.self.now.searchable _ _ c.in-Some.ensures.steps c.loop-via.invariant.rows c.loop-via.invariant.walk c.in_default.is
 
 pub insert-requires : goal.insert-requires
 insert-requires g c =
-    let room = walk_room g.met.L.Joining.joins g.met.L.OrderedLength.orders c.args.self.now.edges.now c.args.self.now.searchable c.args.vias.now _ _ _ c.in-Some.ensures.steps c.loop-via.invariant.rows _ _ c.loop-via.invariant.walk in
+    let room = walk_room g.met.L.Joining.joins g.met.L.OrderedLength.orders c.args.self.now.edges.now c.args.self.now.searchable _ _ c.in-Some.ensures.steps c.loop-via.invariant.rows c.loop-via.invariant.walk in
     search rules
 
 pub begin_of-node-requires : goal.begin_of-node-requires
 begin_of-node-requires g c =
-    walk_known g.met.L.Joining.joins g.met.L.OrderedLength.orders c.args.self.now.edges.now c.args.self.now.searchable c.args.vias.now _ _ _ c.in-Some.ensures.steps c.loop-via.invariant.rows _ _ c.loop-via.invariant.walk _ c.in-Some-via.is
+    walk_known g.met.L.Joining.joins g.met.L.OrderedLength.orders c.args.self.now.edges.now c.args.self.now.searchable _ _ c.in-Some.ensures.steps c.loop-via.invariant.rows c.loop-via.invariant.walk c.in-Some-via.is
 
 pub place_of_end-requires : goal.place_of_end-requires
 place_of_end-requires g c =
-    let walk = walk_next g.met.L.Joining.joins g.met.L.OrderedLength.orders c.args.self.now.edges.now c.args.self.now.searchable c.args.vias.now _ _ _ c.in-Some.ensures.steps c.loop-via.invariant.rows _ _ c.loop-via.invariant.walk _ c.in-Some-via.is c.loop-via.invariant.once c.begin_of-node.result c.insert.new.self.items c.begin_of-node.ensures c.insert.ensures.items in
+    let walk = walk_next g.met.L.Joining.joins g.met.L.OrderedLength.orders c.args.self.now.edges.now c.args.self.now.searchable _ _ c.in-Some.ensures.steps c.loop-via.invariant.rows c.loop-via.invariant.walk c.in-Some-via.is c.loop-via.invariant.once c.begin_of-node.ensures c.insert.ensures.items in
     rw c.deref.ensures.0 (chain_in c.args.self.now.edges.now _ _ walk.last walk.chain)
 
 pub circuit_to-requires : goal.circuit_to-requires
 circuit_to-requires g c =
-    let walk = walk_next g.met.L.Joining.joins g.met.L.OrderedLength.orders c.args.self.now.edges.now c.args.self.now.searchable c.args.vias.now _ _ _ c.in-Some.ensures.steps c.loop-via.invariant.rows _ _ c.loop-via.invariant.walk _ c.in-Some-via.is c.loop-via.invariant.once c.begin_of-node.result c.insert.new.self.items c.begin_of-node.ensures c.insert.ensures.items in
+    let walk = walk_next g.met.L.Joining.joins g.met.L.OrderedLength.orders c.args.self.now.edges.now c.args.self.now.searchable _ _ c.in-Some.ensures.steps c.loop-via.invariant.rows c.loop-via.invariant.walk c.in-Some-via.is c.loop-via.invariant.once c.begin_of-node.ensures c.insert.ensures.items in
     let found = rw c.deref.ensures.0 at c.in-Some-place_of_end.ensures in
     record {
       inside = found.0;
@@ -52,7 +52,7 @@ circuit_to-requires g c =
 
 pub loop-via-preserved : goal.loop-via-preserved
 loop-via-preserved g c =
-    let walk = walk_next g.met.L.Joining.joins g.met.L.OrderedLength.orders c.args.self.now.edges.now c.args.self.now.searchable c.args.vias.now _ _ _ c.in-Some.ensures.steps c.loop-via.invariant.rows _ _ c.loop-via.invariant.walk _ c.in-Some-via.is c.loop-via.invariant.once c.begin_of-node.result c.insert.new.self.items c.begin_of-node.ensures c.insert.ensures.items in
+    let walk = walk_next g.met.L.Joining.joins g.met.L.OrderedLength.orders c.args.self.now.edges.now c.args.self.now.searchable _ _ c.in-Some.ensures.steps c.loop-via.invariant.rows c.loop-via.invariant.walk c.in-Some-via.is c.loop-via.invariant.once c.begin_of-node.ensures c.insert.ensures.items in
     let none = rw c.deref.ensures.0 at c.in_default-place_of_end.ensures in
     record {
       can = tt;
