@@ -5,12 +5,13 @@ use offers::refusal::Refusal;
 use texts::fault::TextFault;
 
 // Why a text is not loaded: it is at fault itself, or the board refuses its net.
-#[derive(Clone, Copy)]
+#[derive(Clone, Copy, Debug, PartialEq, Eq)]
 pub enum LoadFault<'a> {
     Text(TextFault<'a>),
     Board(Refusal),
 }
 
+// By hand, here and below: contracts need to know which fault a `?` makes, and a derived `From` has no contract.
 impl<'a> From<TextFault<'a>> for LoadFault<'a> {
     ghost from_gives = { λ f r. r ≡ Text f };
 

@@ -9,7 +9,7 @@ use nets::Notice;
 use rates::RateFault;
 
 // Why a net or a change is not taken, or a question not answered.
-#[derive(Clone, Copy)]
+#[derive(Clone, Copy, Debug, PartialEq, Eq)]
 pub enum Refusal {
     // The list for the steps of a circuit is under 64; it has this length.
     ShortList(usize),
@@ -44,6 +44,7 @@ impl Refusal {
     }
 }
 
+// By hand, here and below: contracts need to know which refusal a `?` makes, and a derived `From` has no contract.
 impl From<DraftFault> for Refusal {
     ghost from_gives = { λ f r. r ≡ Draft f };
 
