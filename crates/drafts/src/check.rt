@@ -8,7 +8,7 @@ use crate::fault::DraftFault;
 use crate::stage::{Filled, NetSizes};
 use crate::tables::Tables;
 use nets::checked::CheckedNet;
-use nets::{Link, LinkEnds, LinkTerms, Net};
+use nets::{Link, LinkTerms, Net};
 use std::array;
 
 // That no entry has a fault by itself.
@@ -33,23 +33,23 @@ fn check_rooms(terms: &[LinkTerms]) -> Result<(), DraftFault>
 }
 
 // The link of this number, if there are so many.
-fn draft_link(links: u8, ends: &[LinkEnds; 128], terms: &[LinkTerms; 128], k: usize) -> Option<Link>
+fn draft_link(links: u8, tables: &Tables, k: usize) -> Option<Link>
     requires { links ≤ 128 }
-    ensures { result ≡ entry_slot links ends.now terms.now k }
+    ensures { result ≡ entry_slot links tables.now.ends tables.now.terms k }
 {
     (k < links as usize).then(|| Link {
-        ends: ends[k],
-        terms: terms[k],
+        ends: tables.ends[k],
+        terms: tables.terms[k],
     })
 }
 
 // The links of a draft, by number.
-fn draft_links(links: u8, ends: &[LinkEnds; 128], terms: &[LinkTerms; 128]) -> [Option<Link>; 128]
+fn draft_links(links: u8, tables: &Tables) -> [Option<Link>; 128]
     requires { links ≤ 128 }
     ensures many { length result ≡ 128 }
-    ensures each { (k : ℕ) → slice_index_or result k None ≡ entry_slot links ends.now terms.now k }
+    ensures each { (k : ℕ) → slice_index_or result k None ≡ entry_slot links tables.now.ends tables.now.terms k }
 {
-    array::from_fn(|k| draft_link(links, ends, terms, k))
+    array::from_fn(|k| draft_link(links, tables, k))
 }
 
 fn check_entries(sizes: NetSizes, tables: &Tables) -> Result<CheckedNet, DraftFault>
@@ -67,7 +67,7 @@ fn check_entries(sizes: NetSizes, tables: &Tables) -> Result<CheckedNet, DraftFa
         stations: sizes.stations,
         durations: tables.durations,
         rates: [0; 64],
-        links: draft_links(sizes.links, &tables.ends, &tables.terms),
+        links: draft_links(sizes.links, tables),
         pace: sizes.pace,
     };
     Ok(CheckedNet { net })

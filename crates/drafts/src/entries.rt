@@ -15,10 +15,15 @@ use nets::{LinkEnds, LinkTerms};
 pub(crate) fn check_sizes(sizes: NetSizes) -> Result<(), DraftFault>
     ensures { faulted result ≡ sizes_fault sizes }
 {
-    Number::Stations.judge(u64::from(sizes.stations))?;
-    Number::Links.judge(u64::from(sizes.links))?;
-    Number::Share.judge(u64::from(sizes.pace.share))?;
-    Number::Unit.judge(sizes.pace.unit)?;
+    let NetSizes {
+        stations,
+        links,
+        pace,
+    } = sizes;
+    Number::Stations.judge(u64::from(stations))?;
+    Number::Links.judge(u64::from(links))?;
+    Number::Share.judge(u64::from(pace.share))?;
+    Number::Unit.judge(pace.unit)?;
     Ok(())
 }
 

@@ -1,6 +1,6 @@
 // The stages of a draft. Each takes only its own entries, and is used up by moving on; one that is left too early comes back. The tables are passed at each call.
 ghost use Rattle.std.specs.Option.{ForSome};
-ghost use Rattle.std.specs.Prelude.{◌≡◌, ℕ, ◌+◌, ◌<◌, ◌≤◌, Some, None, OnOk, OnErr, MatchResult, slice_set};
+ghost use Rattle.std.specs.Prelude.{◌≡◌, ℕ, ◌+◌, ◌<◌, ◌≤◌, Some, None, OnOk, OnErr, IfOk, IfErr, slice_set};
 ghost use Rattle.drafts.specs.declared.fault.DraftFault.TheVariants.{Missing};
 ghost use Rattle.drafts.specs.Faults.{faulted, or_else};
 ghost use Rattle.drafts.specs.Entries.{sizes_fault};
@@ -64,7 +64,7 @@ pub type Ends = Stage<LinkEnds>;
 // The terms are awaited of each link.
 pub type Terms = Stage<LinkTerms>;
 
-// Nothing is awaited any more. It takes no entry, and can be loaded often.
+// Nothing is awaited any more. It takes no entry, and can be loaded often. It does not hold the tables: they are large, and their owner lends them at each call.
 #[derive(Clone, Copy)]
 pub struct Filled {
     sizes: NetSizes,
@@ -94,7 +94,8 @@ impl Sizes {
 
     // The next stage, or this one back where the sizes are missing.
     pub fn next(self) -> Result<Durations, Left<Sizes>>
-        ensures { MatchResult result (λ next. (self.entry ≡ Some next.sizes) × (next.held ≡ 0)) (λ left. (self.entry ≡ None) × (left.stage ≡ self) × (left.fault ≡ Missing 0)) }
+        ensures complete { IfOk result (λ next. (self.entry ≡ Some next.sizes) × (next.held ≡ 0)) }
+        ensures missing { IfErr result (λ left. (self.entry ≡ None) × (left.stage ≡ self) × (left.fault ≡ Missing 0)) }
     {
         let Some(sizes) = self.entry else {
             let fault = DraftFault::Missing(0);
@@ -137,7 +138,8 @@ impl<E: Entry> Stage<E> {
 
     // The sizes where every entry is held, or this stage back where some are missing.
     fn complete(self) -> Result<NetSizes, Left<Stage<E>>>
-        ensures { MatchResult result (λ sizes. (self.held ≡ E.count self.sizes) × (sizes ≡ self.sizes)) (λ left. (self.held < E.count self.sizes) × (left.stage ≡ self) × (left.fault ≡ Missing self.held)) }
+        ensures complete { IfOk result (λ sizes. (self.held ≡ E.count self.sizes) × (sizes ≡ self.sizes)) }
+        ensures missing { IfErr result (λ left. (self.held < E.count self.sizes) × (left.stage ≡ self) × (left.fault ≡ Missing self.held)) }
     {
         if self.held < E::count(self.sizes) {
             let fault = DraftFault::Missing(self.held);
@@ -147,28 +149,31 @@ impl<E: Entry> Stage<E> {
     }
 }
 
-impl Stage<u16> {
+impl Durations {
     // The next stage, or this one back where durations are missing.
     pub fn next(self) -> Result<Ends, Left<Durations>>
-        ensures { MatchResult result (λ next. (self.held ≡ self.sizes.stations) × (next.sizes ≡ self.sizes) × (next.held ≡ 0)) (λ left. (self.held < self.sizes.stations) × (left.stage ≡ self) × (left.fault ≡ Missing self.held)) }
+        ensures complete { IfOk result (λ next. (self.held ≡ self.sizes.stations) × (next.sizes ≡ self.sizes) × (next.held ≡ 0)) }
+        ensures missing { IfErr result (λ left. (self.held < self.sizes.stations) × (left.stage ≡ self) × (left.fault ≡ Missing self.held)) }
     {
         Ok(Stage::new(self.complete()?))
     }
 }
 
-impl Stage<LinkEnds> {
+impl Ends {
     // The next stage, or this one back where ends are missing.
     pub fn next(self) -> Result<Terms, Left<Ends>>
-        ensures { MatchResult result (λ next. (self.held ≡ self.sizes.links) × (next.sizes ≡ self.sizes) × (next.held ≡ 0)) (λ left. (self.held < self.sizes.links) × (left.stage ≡ self) × (left.fault ≡ Missing self.held)) }
+        ensures complete { IfOk result (λ next. (self.held ≡ self.sizes.links) × (next.sizes ≡ self.sizes) × (next.held ≡ 0)) }
+        ensures missing { IfErr result (λ left. (self.held < self.sizes.links) × (left.stage ≡ self) × (left.fault ≡ Missing self.held)) }
     {
         Ok(Stage::new(self.complete()?))
     }
 }
 
-impl Stage<LinkTerms> {
+impl Terms {
     // The filled draft, or this stage back where terms are missing.
     pub fn next(self) -> Result<Filled, Left<Terms>>
-        ensures { MatchResult result (λ next. (self.held ≡ self.sizes.links) × (next.sizes ≡ self.sizes)) (λ left. (self.held < self.sizes.links) × (left.stage ≡ self) × (left.fault ≡ Missing self.held)) }
+        ensures complete { IfOk result (λ next. (self.held ≡ self.sizes.links) × (next.sizes ≡ self.sizes)) }
+        ensures missing { IfErr result (λ left. (self.held < self.sizes.links) × (left.stage ≡ self) × (left.fault ≡ Missing self.held)) }
     {
         Ok(Filled {
             sizes: self.complete()?,

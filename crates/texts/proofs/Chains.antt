@@ -1,5 +1,5 @@
 -- Parts of a reading, one after another.
-use Rattle.std.proofs.Common.{◌≡◌, ℕ, List, drop, Ok, Err, Result, MatchResult, sym, ap, ◌∙◌, subst}
+use Rattle.std.proofs.Common.{◌≡◌, ℕ, List, drop, Ok, Err, Result, MatchResult, IfOk, sym, ap, ◌∙◌, subst}
 use Rattle.std.specs.Result.{IsErrAnd}
 use Rattle.drafts.specs.declared.fault.DraftFault.{DraftFault}
 use Rattle.drafts.specs.declared.stage.Left.{Left}
@@ -51,6 +51,6 @@ moved_mapped t p (Err l) (Ok v) r P h m q = absurd m
 moved_mapped t p (Err l) (Err f) r P h m q = subst (λ z. Placed t p (Err z) r) (h l f m) q
 
 -- the stage that is moved to
-pub moved_on : {S X : Type 0} (t : List ℕ) (p : ℕ) (n : Result X (Left S)) (v : X) (P : X → Type 0) (Q : Left S → Type 0) → Moved t p n (Ok v) → MatchResult n P Q → P v
-moved_on t p (Ok w) v P Q m h = subst P (sym (let e : v ≡ w = cc in e)) h
-moved_on t p (Err l) v P Q m h = absurd m
+pub moved_on : {S X : Type 0} (t : List ℕ) (p : ℕ) (n : Result X (Left S)) (v : X) (P : X → Type 0) → Moved t p n (Ok v) → IfOk n P → P v
+moved_on t p (Ok w) v P m h = subst P (sym (let e : v ≡ w = cc in e)) h
+moved_on t p (Err l) v P m h = absurd m

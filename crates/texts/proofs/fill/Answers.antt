@@ -47,7 +47,7 @@ returns c =
     let k1 = c.in_ok-line.ensures.kept in
     let k2 = c.in_ok-line-2.ensures.kept in
     let k3 = c.in_ok-line-3.ensures.kept in
-    let sizes : c.in_ok-filled.filled.sizes ≡ s = (moved_on _ _ _ _ _ _ c.in_ok-filled.ensures c.next-4.ensures).1 ∙ k3.1 in
+    let sizes : c.in_ok-filled.filled.sizes ≡ s = (moved_on _ _ _ _ _ c.in_ok-filled.ensures c.next-4.ensures.complete).1 ∙ k3.1 in
     fills_ok s c.args.tables.now c.line.new.tables c.line-2.new.tables c.line-3.new.tables c.requires k1.2 k2.2 k3.2 k1.3 k2.3 k3.3
     c.new-reader.result c.line-3.new.self c.args.text.now c.new-reader.ensures
     (and_on (c.in_ok-counts.ensures.reads after_sizes) (and_on (c.in_ok-line.ensures.reads (after_durations c.in_ok-counts.counts)) (and_on (c.in_ok-line-2.ensures.reads (after_ends c.in_ok-counts.counts (take c.in_ok-counts.counts.stations c.line.new.tables.durations))) (c.in_ok-line-3.ensures.reads (after_terms c.in_ok-counts.counts (take c.in_ok-counts.counts.stations c.line.new.tables.durations) (take c.in_ok-counts.counts.links c.line-2.new.tables.ends))))))
