@@ -52,15 +52,6 @@ module _ {L : Type 0} {neutral : L} {joined : L → L → L} {opposite : L → L
         omega arith
 
   module _ (nodes : ℕ) (w : Within nodes es) (few : nodes ≤ 64) where
-    -- without nodes there are no edges
-    pub no_nodes : nodes ≡ 0 → (a : List L) → LeastStarts neutral joined below nodes es a
-    no_nodes e a = record {
-      kept = λ i h. absurd (let q = (w i h).0 in omega arith);
-      floor = λ y h. absurd (omega arith);
-      reached = λ y h. absurd (omega arith);
-      least = λ other k f y h. absurd (omega arith);
-    }
-
     -- no edge leads past the nodes
     past_came : (a : List L) (y : ℕ) → nodes ≤ y → get_or a y neutral ≡ neutral → (x : L) (v : Option ℕ) → Came neutral joined below es a y x v → x ≡ neutral
     past_came a y h n x None p = p ∙ n

@@ -173,9 +173,6 @@ module _ {L : Type 0} {neutral : L} {joined : L → L → L} {opposite : L → L
     walk_marked h =
         let m = p.raised (length less) here.2 in some_none m.0 (sym m.1 ∙ rw (← here.1) h)
 
-    pub walk_node : x < 64
-    walk_node = let n = p.node in let f = s.few in omega arith
-
     -- there is room for one edge more
     pub walk_room : length c < 64
     walk_room = let n = p.count in let f = s.few in let l = here.2 in omega arith
