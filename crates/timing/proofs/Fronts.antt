@@ -13,6 +13,3 @@ module _ {X : Type 0} (xs ys zs : List X) (i : ℕ) (so : zs ≡ take i xs ++ dr
 
   pub front_all : length xs ≤ i → length ys ≤ i → zs ≡ xs
   front_all h k = so ∙ (λ t. take_all i xs h t ++ drop_all i ys k t) ∙ append-nil xs
-
-  pub front_part : length xs ≤ i → zs ≡ xs ++ drop i ys
-  front_part h = so ∙ ap (λ r. r ++ drop i ys) (take_all i xs h)

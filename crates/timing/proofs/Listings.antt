@@ -7,7 +7,7 @@ use Rattle.rules.specs.Net.{Link, Net, stations, Open}
 use Rattle.rules.specs.Steps.{Step, forward, back, own, Has}
 use Rattle.rules.proofs.Tested.{open_below}
 use Rattle.nets.specs.declared.Step as code
-use Rattle.nets.specs.declared.Step.TheVariants.{Forward, Back, Own}
+use Rattle.nets.specs.declared.Step.TheVariants.{Forward, Back}
 use Rattle.nets.specs.Views.{of_step}
 use Rattle.handover.proofs.Options.{none_some}
 use Rattle.timing.specs.Listing.{room_steps, link_steps, links_to, owns_to, steps_of}
@@ -47,14 +47,6 @@ module _ (N : Net) (k : ℕ) where
           ∙ ap (λ xs. xs ++ (back k ∷ [])) (map_push of_step list (Forward k) ∙ ap (λ xs. xs ++ (forward k ∷ [])) so)
           ∙ append_assoc (links_to N k) (forward k ∷ []) (back k ∷ [])
           ∙ ap (λ r. links_to N k ++ (forward k ∷ r)) (sym (room_one k l.c f)) ∙ sym (next (Some l) e)
-
-pub turn_own : (i : ℕ) (xs : List Step) (list list' : List code.Step) → map of_step list ≡ xs ++ owns_to i → list' ≡ list ++ (Own i ∷ []) → map of_step list' ≡ xs ++ owns_to (i + 1)
-turn_own i xs list list' so q =
-    ap (map of_step) q ∙ map_push of_step list (Own i) ∙ ap (λ ys. ys ++ (own i ∷ [])) so
-    ∙ append_assoc xs (owns_to i) (own i ∷ []) ∙ ap (λ ys. xs ++ ys) (sym (next_own i))
-  where
-    next_own : (i : ℕ) → owns_to (i + 1) ≡ owns_to i ++ (own i ∷ [])
-    next_own i = rw (add-one i) refl
 
 -- Each of a list
 

@@ -1,11 +1,9 @@
 -- Tests of whole numbers, as orders, and what `cmp` answers, as tests. Assumes nothing.
 use Rattle.std.proofs.Common.{◌≡◌, Bool, true, false, not, cond, T, ℤ, ◌≤ℤ◌, ◌<ℤ◌, sym, refl, subst}
 use lib.Signed.{lt_z, lt_z_yes, lt_z_no}
-use Rattle.std.specs.declared.cmp.Ordering.{Ordering}
 use Rattle.std.specs.declared.cmp.Ordering.TheVariants.{Less, Equal, Greater}
 use Rattle.std.specs.Ordering.{ordering_then, is_lt, int_cmp}
 use Rattle.lengths.specs.declared.Ticks.{Ticks}
-use Rattle.lengths.specs.Laws.{comes_before}
 use Rattle.lengths.specs.Models.{below_ticks, below_pair}
 
 pub less : (a b : ℤ) → lt_z a b ≡ true → a <ℤ b

@@ -32,9 +32,6 @@ good_at N G p P =
       range = record { some = R.some; few = R.few; numbers = R.numbers; lasting = R.lasting; recurring = R.recurring; share = P.share.1; unit = P.unit.1; linked = R.linked };
     }
 
-pub named_in_range : (N : rules.Net) (p : Pace) → Named N p → PaceInRange p
-named_in_range N p n = record { share = (n.share.0, omega (arith, n.share.1)); unit = (n.unit.0, omega (arith, n.unit.1)) }
-
 -- What a round at a pace says of the net at that pace, it says of the net at its own
 module _ (N : Net) (A B : ℕ) where
   named_back : (p : Pace) → Named (at_pace_lem (of_net N) A B) p → Named (of_net N) p

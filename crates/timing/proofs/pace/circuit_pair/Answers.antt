@@ -1,8 +1,5 @@
-use Rattle.std.proofs.Common.{◌≡◌, ◌<◌, map, length, take, sym, ap, ◌∙◌, subst, arith}
-use Rattle.std.proofs.lemmas.List.{take_all}
-use Rattle.nets.specs.Views.{of_net, of_step, step_of, no_step}
+use Rattle.std.proofs.Common.{◌∙◌}
 use Rattle.nets.proofs.Alone.{good}
-use Rattle.timing.specs.Pacing.{pair_of}
 use Rattle.timing.proofs.Raising.{step_held, join_room, join_more}
 use Rattle.timing.proofs.pace.circuit_pair.Goals as goal
 

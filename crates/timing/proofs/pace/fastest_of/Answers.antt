@@ -1,8 +1,7 @@
 use Rattle.std.proofs.Common.{sym, subst}
-use Rattle.nets.specs.declared.Net.{Net}
 use Rattle.nets.specs.Views.{of_net}
 use Rattle.nets.proofs.Alone.{good}
-use Rattle.timing.specs.Pacing.{Raises, FastestPace}
+use Rattle.timing.specs.Pacing.{FastestPace}
 use Rattle.timing.specs.declared.Raised.TheVariants.{Enough, To, Never}
 use Rattle.timing.proofs.Paced.{raises_at, own_named, fastest_named_lem, divisor_some, falls, no_pace}
 use Rattle.timing.proofs.pace.fastest_of.Goals as goal
