@@ -12,7 +12,7 @@ use boards::text::LoadFault;
 use drafts::fault::DraftFault;
 use drafts::stage::{Durations, NetSizes, Sizes};
 use drafts::tables::Tables;
-use nets::{CircuitStep, Pace, Step};
+use nets::{CircuitStep, Notice, Pace, Step};
 use offers::survey::survey;
 use plans::plan;
 use std::alloc::AllocError;
@@ -84,16 +84,8 @@ fn show_plan(rt: &HostRuntime, number: u64, text: &[u8]) -> anyhow::Result<()> {
     Ok(())
 }
 
-fn show_refusal(
-    rt: &HostRuntime,
-    number: u64,
-    refusal: u8,
-    place: Option<u64>,
-) -> anyhow::Result<()> {
-    match place {
-        Some(p) => println!(rt; "{number}: refused {refusal} {p}")?,
-        None => println!(rt; "{number}: refused {refusal}")?,
-    }
+fn show_refusal(rt: &HostRuntime, number: u64, notice: Notice) -> anyhow::Result<()> {
+    println!(rt; "{number}: {notice}")?;
     Ok(())
 }
 
@@ -101,16 +93,17 @@ fn show_survey(rt: &HostRuntime, number: u64, text: &[u8]) -> anyhow::Result<()>
     let mut tables = Tables::new();
     let filled = match read(text, &mut tables) {
         Ok(filled) => filled,
-        Err(fault) => {
-            let (refusal, offset) = fault.told();
-            return show_refusal(rt, number, refusal, Some(offset as u64));
-        }
+        Err(fault) => return show_refusal(rt, number, fault.told()),
     };
     let found = match survey(&filled, &tables) {
         Ok(found) => found,
         Err(refusal) => {
             let (refusal, place) = refusal.told();
-            return show_refusal(rt, number, refusal, place);
+            let notice = Notice {
+                number: refusal,
+                place,
+            };
+            return show_refusal(rt, number, notice);
         }
     };
     print!(rt; "{number}: rates")?;
@@ -135,13 +128,14 @@ fn show_short_list(rt: &HostRuntime, number: u64, text: &[u8]) -> anyhow::Result
         return Err(anyhow!("a short list was taken"));
     };
     match fault {
-        LoadFault::Text(fault) => {
-            let (refusal, offset) = fault.told();
-            show_refusal(rt, number, refusal, Some(offset as u64))
-        }
+        LoadFault::Text(fault) => show_refusal(rt, number, fault.told()),
         LoadFault::Board(refusal) => {
             let (refusal, place) = refusal.told();
-            show_refusal(rt, number, refusal, place)
+            let notice = Notice {
+                number: refusal,
+                place,
+            };
+            show_refusal(rt, number, notice)
         }
     }
 }
@@ -152,12 +146,11 @@ fn show_short_buffer(rt: &HostRuntime, number: u64, text: &[u8]) -> anyhow::Resu
     let Err(short) = plan(text, &mut out) else {
         return Err(anyhow!("a short buffer was taken"));
     };
-    show_refusal(rt, number, 7, Some(short.length as u64))
-}
-
-fn show_fault(rt: &HostRuntime, number: u64, fault: DraftFault) -> anyhow::Result<()> {
-    let (refusal, place) = fault.told();
-    show_refusal(rt, number, refusal, Some(place as u64))
+    let notice = Notice {
+        number: 7,
+        place: Some(short.length as u64),
+    };
+    show_refusal(rt, number, notice)
 }
 
 // A draft of so many stations that awaits durations.
@@ -168,49 +161,31 @@ fn durations_of(stations: u8) -> Option<Durations> {
         links: 0,
         pace: Pace { share: 1, unit: 1 },
     };
-    let Ok(()) = sizes.take(entry) else {
-        return None;
-    };
-    match sizes.next() {
-        Ok(durations) => Some(durations),
-        Err(_) => None,
-    }
+    sizes.take(entry).ok()?;
+    sizes.next().ok()
 }
 
 // Two stations and one duration, and then on to the next stage.
 fn missing_duration() -> Option<DraftFault> {
     let mut tables = Tables::new();
     let mut durations = durations_of(2)?;
-    let Ok(()) = durations.take(&mut tables, 1) else {
-        return None;
-    };
-    match durations.next() {
-        Ok(_) => None,
-        Err(left) => Some(left.1),
-    }
+    durations.take(&mut tables, 1).ok()?;
+    durations.next().err().map(|left| left.fault)
 }
 
 // One station and two durations.
 fn duration_too_many() -> Option<DraftFault> {
     let mut tables = Tables::new();
     let mut durations = durations_of(1)?;
-    let Ok(()) = durations.take(&mut tables, 1) else {
-        return None;
-    };
-    match durations.take(&mut tables, 1) {
-        Ok(()) => None,
-        Err(fault) => Some(fault),
-    }
+    durations.take(&mut tables, 1).ok()?;
+    durations.take(&mut tables, 1).err()
 }
 
 // A duration of 0.
 fn no_duration() -> Option<DraftFault> {
     let mut tables = Tables::new();
     let mut durations = durations_of(1)?;
-    match durations.take(&mut tables, 0) {
-        Ok(()) => None,
-        Err(fault) => Some(fault),
-    }
+    durations.take(&mut tables, 0).err()
 }
 
 fn show_draft(rt: &HostRuntime, number: u64, what: &str) -> anyhow::Result<()> {
@@ -220,7 +195,7 @@ fn show_draft(rt: &HostRuntime, number: u64, what: &str) -> anyhow::Result<()> {
         _ => no_duration(),
     };
     match fault {
-        Some(fault) => show_fault(rt, number, fault),
+        Some(fault) => show_refusal(rt, number, fault.told()),
         None => Err(anyhow!("the draft took it")),
     }
 }
