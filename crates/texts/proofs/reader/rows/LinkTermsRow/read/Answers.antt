@@ -1,7 +1,6 @@
-use Rattle.std.proofs.Common.{◌≡◌, ℕ, length, Some, None, Option, ap, ◌∙◌, arith}
+use Rattle.std.proofs.Common.{ℕ, length, Option, ap, ◌∙◌, arith}
 use Rattle.std.proofs.lemmas.Result.{err_from_is_err_and}
 use Rattle.nets.specs.declared.LinkTerms.{LinkTerms}
-use Rattle.drafts.specs.declared.fault.DraftFault.{DraftFault}
 use Rattle.drafts.specs.Faults.{range_fault}
 use Rattle.drafts.specs.Entries.{terms_fault, room_fault}
 use Rattle.forms.specs.Form.{mark}
