@@ -58,6 +58,7 @@ impl<'a> Reader<'a> {
         requires { at ≤ length self.now.text.now }
         ensures { Placed self.now.text.now at answer result }
     {
+        // Not by `map_err`: of what its closure calls, the proof learns too little.
         match answer {
             Ok(value) => Ok(value),
             Err(fault) => Err(TextFault::Draft(fault, self.word(at))),

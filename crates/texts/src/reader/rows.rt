@@ -1,4 +1,4 @@
-// The entries that stand in a line of the text, one after the other.
+// The entries that stand in a line of the text, one after the other. A cast of a number that the draft has judged loses nothing.
 ghost use Rattle.std.specs.Prelude.{ℕ};
 ghost use Rattle.texts.specs.NetForm.{NetForm, duration_entry, ends_entry, terms_entry};
 ghost use Rattle.texts.specs.Rows.{ReadsEntry};

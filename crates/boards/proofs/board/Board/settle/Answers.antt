@@ -1,11 +1,26 @@
-use Rattle.std.proofs.Common.{refl, rules, arith}
+use Rattle.std.proofs.Common.{◌≡◌, take, length, refl, sym, ap, subst, rules, arith}
+use Rattle.rules.specs.Rules.{Least}
 use Rattle.nets.specs.Views.{of_net}
+use Rattle.nets.proofs.Alone.{least}
+use Rattle.timing.specs.Timing.{Told}
 use Rattle.boards.proofs.Writing.{written}
 use Rattle.boards.proofs.board.Board.settle.Goals as goal
 
+pub returns-in-Ok : goal.returns-in-Ok
+returns-in-Ok c =
+    let t = c.in-Ok.timed in
+    let T = c.in-Ok.ensures in
+    let starts = take t.net.net.stations t.starts in (
+      ap (λ n. of_net n.net) T.its_net,
+      subst (λ n. Least (of_net n.net) starts) T.its_net (least (of_net t.net.net) starts t.least),
+      refl,
+    )
+
 pub returns-in-Err : goal.returns-in-Err
 returns-in-Err c =
-    let R = c.in-Err.ensures in (
-      written (of_net c.args.net.net) c.args.list.now c.in-Err.circuit.steps.items _ R.few (search rules) R.told,
+    let R = c.in-Err.ensures in
+    let steps = c.as_slice-steps.result.now in
+    let e : steps ≡ c.in-Err.circuit.steps.items = search rules in (
+      written (of_net c.args.net.net) c.args.list.now steps _ (omega (arith, R.few, ap length e)) (search rules) (subst (Told (of_net c.args.net.net)) (sym e) R.told),
       refl,
     )

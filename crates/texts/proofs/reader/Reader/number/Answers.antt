@@ -3,11 +3,9 @@ use Rattle.std.proofs.lemmas.Bool.Decides.{nat_tests}
 use Rattle.std.specs.List.{prefix_len}
 use Rattle.forms.specs.Marks.{is_digit, digit_first, value_on}
 use Rattle.forms.specs.Form.{broken}
-use Rattle.texts.specs.declared.fault.TextFault.TheVariants.{Form}
 use Rattle.texts.specs.Faults.{Worded}
-use Rattle.texts.specs.Lexemes.{word_of}
 use Rattle.texts.specs.Reading.{rest}
-use Rattle.texts.proofs.Steps.{digit_here, no_digit_here, first_here, capped_on, value_more, leading_more}
+use Rattle.texts.proofs.Steps.{digit_here, first_here, capped_on, value_more, leading_more}
 use Rattle.texts.proofs.Asked.{numbered_none, numbered_led, numbered_value}
 use Rattle.texts.proofs.reader.Reader.number.Goals as goal
 

@@ -1,4 +1,4 @@
-use Rattle.std.proofs.Common.{ℕ, None, length, refl, ap, ◌∙◌, arith}
+use Rattle.std.proofs.Common.{ℕ, None, length, refl, ap, arith}
 use Rattle.std.proofs.lemmas.Result.{err_from_is_err_and}
 use Rattle.nets.specs.declared.LinkEnds.{LinkEnds}
 use Rattle.drafts.specs.Faults.{station_fault}

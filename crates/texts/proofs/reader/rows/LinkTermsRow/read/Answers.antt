@@ -1,7 +1,6 @@
-use Rattle.std.proofs.Common.{◌≡◌, ℕ, length, Some, None, Option, ap, ◌∙◌, arith}
+use Rattle.std.proofs.Common.{ℕ, length, Option, ap, ◌∙◌, arith}
 use Rattle.std.proofs.lemmas.Result.{err_from_is_err_and}
 use Rattle.nets.specs.declared.LinkTerms.{LinkTerms}
-use Rattle.drafts.specs.declared.fault.DraftFault.{DraftFault}
 use Rattle.drafts.specs.Faults.{range_fault}
 use Rattle.drafts.specs.Entries.{terms_fault, room_fault}
 use Rattle.forms.specs.Form.{mark}
@@ -71,7 +70,7 @@ returns c =
     let e : LinkTerms = record { produced = c.in_ok-produced.produced; consumed = c.in_ok-consumed.consumed; stock = c.in_ok-stock.stock; capacity = c.in_ok-capacity.capacity } in
     let last = c.in_ok-capacity.ensures in
     let first : (i : ℕ) (k : LinkTerms → NetForm) → Goes c.args.reader.now (terms_entry i k) c.mark-3.new.self (capacities i k c.in_ok-produced.produced c.in_ok-consumed.consumed c.in_ok-stock.stock)
-        = λ i k. and_on (c.in_ok-produced.ensures.reads (λ w. mark 58 (consumeds i k w))) (and_on (c.in_ok-mark.ensures (λ _. consumeds i k c.in_ok-produced.produced)) (and_on (c.in_ok-consumed.ensures.reads (λ v. mark 58 (stocks i k c.in_ok-produced.produced v))) (and_on (c.in_ok-mark-2.ensures (λ _. stocks i k c.in_ok-produced.produced c.in_ok-consumed.consumed)) (and_on (c.in_ok-stock.ensures.reads (λ u. mark 58 (capacities i k c.in_ok-produced.produced c.in_ok-consumed.consumed u))) (c.in_ok-mark-3.ensures (λ _. capacities i k c.in_ok-produced.produced c.in_ok-consumed.consumed c.in_ok-stock.stock)))))) in
+    = λ i k. and_on (c.in_ok-produced.ensures.reads (λ w. mark 58 (consumeds i k w))) (and_on (c.in_ok-mark.ensures (λ _. consumeds i k c.in_ok-produced.produced)) (and_on (c.in_ok-consumed.ensures.reads (λ v. mark 58 (stocks i k c.in_ok-produced.produced v))) (and_on (c.in_ok-mark-2.ensures (λ _. stocks i k c.in_ok-produced.produced c.in_ok-consumed.consumed)) (and_on (c.in_ok-stock.ensures.reads (λ u. mark 58 (capacities i k c.in_ok-produced.produced c.in_ok-consumed.consumed u))) (c.in_ok-mark-3.ensures (λ _. capacities i k c.in_ok-produced.produced c.in_ok-consumed.consumed c.in_ok-stock.stock)))))) in
     record {
       fits = λ i k z. and_on (first i k) (last.fits i e.stock (whole k e.produced e.consumed e.stock) z);
       refuses = λ i k f z. (first i k).runs ∙ last.below i e.stock (whole k e.produced e.consumed e.stock) f z;
