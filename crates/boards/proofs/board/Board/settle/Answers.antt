@@ -1,4 +1,4 @@
-use Rattle.std.proofs.Common.{◌≡◌, take, length, refl, sym, ap, subst, rules, arith}
+use Rattle.std.proofs.Common.{◌≡◌, take, length, refl, sym, ap, ◌∙◌, subst, rules, arith}
 use Rattle.rules.specs.Rules.{Least}
 use Rattle.nets.specs.Views.{of_net}
 use Rattle.nets.proofs.Alone.{least}
@@ -19,8 +19,10 @@ returns-in-Ok c =
 pub returns-in-Err : goal.returns-in-Err
 returns-in-Err c =
     let R = c.in-Err.ensures in
-    let steps = c.as_slice-steps.result.now in
-    let e : steps ≡ c.in-Err.circuit.steps.items = search rules in (
-      written (of_net c.args.net.net) c.args.list.now steps _ (omega (arith, R.few, ap length e)) (search rules) (subst (Told (of_net c.args.net.net)) (sym e) R.told),
+    let n = length c.as_slice-steps.result.now in
+    let e : c.as_slice-steps.result.now ≡ c.in-Err.circuit.steps.items = search rules in
+    let f : c.copy_from_slice.new.self ≡ c.in-Err.circuit.steps.items = search rules in (
+      written (of_net c.args.net.net) n c.args.list.now c.copy_from_slice.new.self _ (omega (arith, R.few, ap length e)) (ap length f ∙ sym (ap length e)) refl
+      (subst (Told (of_net c.args.net.net)) (sym f) R.told),
       refl,
     )
