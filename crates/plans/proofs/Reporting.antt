@@ -1,5 +1,5 @@
 -- What is reported of a load. Assumes nothing.
-use Rattle.std.proofs.Common.{◌≡◌, ℕ, ◌^◌, ◌<◌, ◌≤◌, List, map, All, length, get_or, take, drop, pos, nat_abs, IfOk, Some, Option, Ok, Err, Result, refl, sym, ap, ◌∙◌, subst, arith, length-append, length-drop}
+use Rattle.std.proofs.Common.{◌≡◌, ℕ, ◌^◌, ◌<◌, ◌≤◌, List, map, All, length, get_or, take, drop, pos, nat_abs, IfOk, Some, Ok, Err, Result, refl, sym, ap, ◌∙◌, subst, arith, length-append, length-drop}
 use Rattle.std.proofs.lemmas.List.{length-map, length-take-le, get_or-map}
 use Rattle.rules.specs.Net.{Net, Sound, stations}
 use Rattle.rules.specs.Ranges.{InRange}
@@ -65,15 +65,15 @@ module _ (N : Net) (S : Sound N) (R : InRange N) (cs : List CircuitStep) (T : To
   pub told_sized : All (λ s. nat_abs s.length < 10 ^ 17) cs
   told_sized i d h = let z = steps_sized_lem N S R (of_step (get_or cs i d).step) (has i d h) in omega (arith, z.ticks, ap nat_abs (lasts i d h))
 
--- The bytes of a notice, and the notices of a text's fault and of a refusal.
+-- The bytes of a notice, the notice of a text's fault, and the bytes of a refusal.
 abbrev notice_bytes : Notice → List ℕ
 notice_bytes m = refusal_bytes m.number m.place
 
 abbrev pub text_notice : TextFault → Notice
 text_notice f = record { number = (texts_faults.told_of f).0; place = Some (texts_faults.told_of f).1 }
 
-abbrev pub refused_notice : Refusal → Notice
-refused_notice q = record { number = (told_of q).0; place = (told_of q).1 }
+abbrev pub refused_bytes : Refusal → List ℕ
+refused_bytes q = refusal_bytes (told_of q).0 (told_of q).1
 
 -- A text at fault
 
@@ -119,11 +119,11 @@ module _ (text : List ℕ) (b b' : Board) (list list' : List CircuitStep) (long 
   reported (NoTimetable n) other K = absurd (other n refl)
   reported NoPace other K = absurd K.loads
 
-  pub refusal_told : (out out' : List ℕ) (a : Result ℕ ShortBuffer) (q : Refusal) (told : Notice) → r ≡ Err (faults.Board q) → ((n : ℕ) → q ≡ NoTimetable n → ⊥) → told ≡ refused_notice q → Reported (notice_bytes told) out out' a → Planned text out out' a
-  refusal_told out out' a q told e other t w = record {
-    bytes = refusal_bytes (told_of q).0 (told_of q).1;
+  pub refusal_told : (out out' : List ℕ) (a : Result ℕ ShortBuffer) (q : Refusal) → r ≡ Err (faults.Board q) → ((n : ℕ) → q ≡ NoTimetable n → ⊥) → Reported (refused_bytes q) out out' a → Planned text out out' a
+  refusal_told out out' a q e other w = record {
+    bytes = refused_bytes q;
     reports = reported q other (as_told (Err (faults.Board q)) e);
-    written = subst (λ z. Reported (notice_bytes z) out out' a) t w;
+    written = w;
   }
 
   -- a circuit stands at the front of the list
