@@ -11,7 +11,6 @@ ghost use Rattle.timing.specs.Timing.{told_step};
 use crate::edges::StepLength;
 use crate::steps::NetStep;
 use arrayvec::ArrayVec;
-use lengths::{Joining, OrderedLength};
 use nets::sound::SoundNet;
 use nets::{CircuitStep, Step};
 use search::{Circuit, Edge, SearchError, least_starts};
