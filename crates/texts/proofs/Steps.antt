@@ -73,14 +73,6 @@ digit_here at t d e =
     (λ h. let n = lexeme_end at t h in let z : ◌≡◌ {A = ℕ} 0 1 = cc in absurd (omega arith))
     (cases_lt at (length t))
 
-lexeme_digit : (cs : List ℕ) → digit_first cs ≡ true → (d : ℕ) × (lexeme_at cs ≡ Some (Digit d))
-lexeme_digit [] e = absurd (both_ways false refl e)
-lexeme_digit (c ∷ cs) e = (c - 48, grind (arith, nat_tests))
-
-pub no_digit_here : (cs : List ℕ) → ((d : ℕ) → lexeme_at cs ≡ Some (Digit d) → ⊥) → digit_first cs ≡ false
-no_digit_here cs n =
-    ⊎_elim (λ y. let d = lexeme_digit cs y in absurd (n d.0 d.1)) (λ e. e) (cases_Bool (digit_first cs))
-
 pub first_here : (at : ℕ) (t : List ℕ) → at < length t → digit_first (drop at t) ≡ is_digit (get_or t at 0)
 first_here at t h = at_drop_more digit_first t at 0 h
 
