@@ -1,5 +1,5 @@
 // The entries of a draft, and the checks of one by itself, number after number.
-ghost use Rattle.std.specs.Prelude.{◌≡◌, ℕ, ◌<◌, ◌≤◌, List, None, Option, slice_set, refl};
+ghost use Rattle.std.specs.Prelude.{◌≡◌, ℕ, List, None, Option, slice_set, refl};
 ghost use Rattle.drafts.specs.declared.stage.NetSizes.{NetSizes};
 ghost use Rattle.drafts.specs.declared.tables.Tables.{Tables};
 ghost use Rattle.drafts.specs.declared.fault.DraftFault.{DraftFault};
@@ -29,10 +29,8 @@ pub(crate) fn check_sizes(sizes: NetSizes) -> Result<(), DraftFault>
 
 // An entry of which there is one for each station or each link. The tables have a column for each kind.
 pub trait Entry: Copy {
-    // How many entries the sizes ask for, and how many the column has room for.
+    // How many entries the sizes ask for.
     ghost count: { NetSizes → ℕ };
-
-    ghost room: { ℕ };
 
     // Its fault by itself, where there are so many stations, and its fault at its place.
     ghost fault: { ℕ → Self → Option DraftFault };
@@ -53,11 +51,9 @@ pub trait Entry: Copy {
     fn check_place(self, place: u8) -> Result<(), DraftFault>
         ensures { faulted result ≡ place_fault place self };
 
+    // Puts the entry in its place, if the column has that one.
     fn store(self, tables: &mut Tables, place: u8)
-        requires { place < room }
         ensures { tables.new ≡ with_column tables.old (slice_set (column tables.old) place self) };
-
-    ghost fits: { (s : NetSizes) → s.stations ≤ 64 → s.links ≤ 128 → count s ≤ room };
 
     ghost apart: { IsColumn column with_column };
 }
@@ -66,8 +62,6 @@ pub trait Entry: Copy {
 impl Entry for u16 {
     ghost count = { λ s. s.stations };
 
-    ghost room = { 64 };
-
     ghost fault = { λ n d. duration_fault d };
 
     ghost place_fault = { λ i d. None };
@@ -75,8 +69,6 @@ impl Entry for u16 {
     ghost column = { λ t. t.durations };
 
     ghost with_column = { λ t xs. record { durations = xs; ends = t.ends; terms = t.terms } };
-
-    ghost fits = { λ s m n. m };
 
     ghost apart = { record { got = λ t xs. refl; last = λ t xs ys. refl; own = λ t. refl } };
 
@@ -94,14 +86,15 @@ impl Entry for u16 {
     }
 
     fn store(self, tables: &mut Tables, place: u8) {
-        tables.durations[place as usize] = self;
+        let place = place as usize;
+        if place < tables.durations.len() {
+            tables.durations[place] = self;
+        }
     }
 }
 
 impl Entry for LinkEnds {
     ghost count = { λ s. s.links };
-
-    ghost room = { 128 };
 
     ghost fault = { ends_fault };
 
@@ -110,8 +103,6 @@ impl Entry for LinkEnds {
     ghost column = { λ t. t.ends };
 
     ghost with_column = { λ t xs. record { durations = t.durations; ends = xs; terms = t.terms } };
-
-    ghost fits = { λ s m n. n };
 
     ghost apart = { record { got = λ t xs. refl; last = λ t xs ys. refl; own = λ t. refl } };
 
@@ -130,14 +121,15 @@ impl Entry for LinkEnds {
     }
 
     fn store(self, tables: &mut Tables, place: u8) {
-        tables.ends[place as usize] = self;
+        let place = place as usize;
+        if place < tables.ends.len() {
+            tables.ends[place] = self;
+        }
     }
 }
 
 impl Entry for LinkTerms {
     ghost count = { λ s. s.links };
-
-    ghost room = { 128 };
 
     ghost fault = { λ n t. terms_fault t };
 
@@ -146,8 +138,6 @@ impl Entry for LinkTerms {
     ghost column = { λ t. t.terms };
 
     ghost with_column = { λ t xs. record { durations = t.durations; ends = t.ends; terms = xs } };
-
-    ghost fits = { λ s m n. n };
 
     ghost apart = { record { got = λ t xs. refl; last = λ t xs ys. refl; own = λ t. refl } };
 
@@ -174,6 +164,9 @@ impl Entry for LinkTerms {
     }
 
     fn store(self, tables: &mut Tables, place: u8) {
-        tables.terms[place as usize] = self;
+        let place = place as usize;
+        if place < tables.terms.len() {
+            tables.terms[place] = self;
+        }
     }
 }
