@@ -51,7 +51,7 @@ pub trait Entry: Copy {
     fn check_place(self, place: u8) -> Result<(), DraftFault>
         ensures { faulted result ≡ place_fault place self };
 
-    // Puts the entry in its place, if the column has that one.
+    // Puts the entry in its place, if the column has that one. Written at each kind: a column that is lent would say less plainly what becomes of it.
     fn store(self, tables: &mut Tables, place: u8)
         ensures { tables.new ≡ with_column tables.old (slice_set (column tables.old) place self) };
 

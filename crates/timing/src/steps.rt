@@ -105,6 +105,8 @@ fn link_edge(net: &Net, l: Link, x: u8, y: u8, parts: u16) -> Edge<(i64, i64)>
 }
 
 // A link's step forward counts its stock.
+// It and `back_edge` are one call each, so that what is counted is said by name. What they ask is made in one place, by a step that its net has:
+// a type for it would hold the same facts, and say no more.
 fn forward_edge(net: &Net, l: Link) -> Edge<(i64, i64)>
     requires known { Known net.now l l.terms.stock }
     ensures { result ≡ between net.now l.ends.from l.ends.to (l.terms.stock / unit_of l * grain_of net.now l) (grain_of net.now l) }

@@ -23,6 +23,6 @@ returns-in-Err c =
     let e : c.as_slice-steps.result.now ≡ c.in-Err.circuit.steps.items = search rules in
     let f : c.copy_from_slice.new.self ≡ c.in-Err.circuit.steps.items = search rules in (
       written (of_net c.args.net.net) n c.args.list.now c.copy_from_slice.new.self _ (omega (arith, R.few, ap length e)) (ap length f ∙ sym (ap length e)) refl
-      (subst (Told (of_net c.args.net.net)) (sym f) R.told),
+          (subst (Told (of_net c.args.net.net)) (sym f) R.told),
       refl,
     )
