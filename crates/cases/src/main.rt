@@ -47,6 +47,7 @@ fn case_of(line: &str) -> Option<(Case, &str)> {
     None
 }
 
+// By hand, since cases have small letters alone, and the library's `to_digit` takes capitals too.
 fn hex_digit(b: u8) -> u8
     ensures { result < 16 }
 {

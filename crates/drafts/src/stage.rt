@@ -149,6 +149,7 @@ impl<E: Entry> Stage<E> {
     }
 }
 
+// A `next` at each kind, since the stages that follow differ in what they show.
 impl Durations {
     // The next stage, or this one back where durations are missing.
     pub fn next(self) -> Result<Ends, Left<Durations>>

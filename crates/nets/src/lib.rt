@@ -61,7 +61,7 @@ pub enum Step {
     Own(u8),
 }
 
-// What fills the unused places of a list of steps.
+// What fills the unused places of a list of steps. By hand, since a derive takes a variant with no field alone.
 impl Default for Step {
     ghost is_default = { λ s. s ≡ Forward 0 };
 

@@ -21,7 +21,7 @@ pub enum Refusal {
     CutOff(u8),
     // The net has no rates.
     NoRates,
-    // The net has no timetable at its pace; a circuit of so many steps stands at the front of the list.
+    // The net has no timetable at its pace; a circuit of so many steps stands at the front of the list that the caller handed in.
     NoTimetable(usize),
     // No pace has a timetable.
     NoPace,

@@ -12,8 +12,8 @@ pub struct Timetable<'a> {
     ghost same: { length periods.now ≡ length starts.now },
 }
 
-// What it tells of a net without a timetable: the steps of a circuit, with their lengths in ticks.
-#[derive(Clone, Copy)]
+// What it tells of a net without a timetable: the steps of a circuit, with their lengths in ticks. They are lent, from the list of a load.
+#[derive(Clone, Copy, Debug, PartialEq, Eq)]
 pub struct Circuit<'a> {
     pub steps: &'a [CircuitStep],
     ghost few: { length steps.now ≤ 64 },
