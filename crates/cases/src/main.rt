@@ -39,12 +39,9 @@ const CASES: [(&str, Case); 5] = [
 
 // The case of a line, and what it is about.
 fn case_of(line: &str) -> Option<(Case, &str)> {
-    for (name, case) in CASES {
-        if let Some(rest) = line.strip_prefix(name) {
-            return Some((case, rest));
-        }
-    }
-    None
+    CASES
+        .iter()
+        .find_map(|(name, case)| Some((*case, line.strip_prefix(*name)?)))
 }
 
 // By hand, since cases have small letters alone, and the library's `to_digit` takes capitals too.
@@ -180,6 +177,7 @@ fn no_duration() -> Option<DraftFault> {
 }
 
 fn show_draft(rt: &impl Print, what: &str) -> Result<()> {
+    // Three things to do, each by its name in the input.
     let fault = match what {
         "a duration missing" => missing_duration(),
         "a duration too many" => duration_too_many(),
@@ -191,10 +189,7 @@ fn show_draft(rt: &impl Print, what: &str) -> Result<()> {
     }
 }
 
-fn show(rt: &impl Print, alloc: Global, line: &str) -> Result<()> {
-    let Some((case, rest)) = case_of(line) else {
-        return Err(anyhow!("a line that is no case"));
-    };
+fn show(rt: &impl Print, alloc: Global, case: Case, rest: &str) -> Result<()> {
     let text = unescaped(alloc, rest.as_bytes())?;
     match case {
         Case::Plan => show_plan(rt, &text),
@@ -213,8 +208,11 @@ fn main(rt: HostRuntime) -> Result<()> {
             println!(rt; "{line}")?;
         } else {
             number = number.saturating_add(1);
+            let Some((case, rest)) = case_of(&line) else {
+                return Err(anyhow!("a line that is no case"));
+            };
             print!(rt; "{number}: ")?;
-            show(&rt, rt.alloc(), &line)?;
+            show(&rt, rt.alloc(), case, rest)?;
         }
     }
     Ok(())

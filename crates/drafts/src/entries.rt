@@ -111,8 +111,8 @@ impl Entry for LinkEnds {
     }
 
     fn check(self, stations: u8) -> Result<(), DraftFault> {
-        Number::From(stations).judge(u64::from(self.from))?;
-        Number::To(stations).judge(u64::from(self.to))?;
+        Number::Station(1, stations).judge(u64::from(self.from))?;
+        Number::Station(2, stations).judge(u64::from(self.to))?;
         Ok(())
     }
 
@@ -146,8 +146,8 @@ impl Entry for LinkTerms {
     }
 
     fn check(self, _stations: u8) -> Result<(), DraftFault> {
-        Number::Produced.judge(u64::from(self.produced))?;
-        Number::Consumed.judge(u64::from(self.consumed))?;
+        Number::Batch(1).judge(u64::from(self.produced))?;
+        Number::Batch(2).judge(u64::from(self.consumed))?;
         Number::Stock.judge(u64::from(self.stock))?;
         if let Some(c) = self.capacity {
             Number::Capacity.judge(u64::from(c))?;

@@ -16,12 +16,10 @@ pub enum Number {
     Unit,
     // A duration in time units.
     Duration,
-    // The stations that a link leads from and to, of so many.
-    From(u8),
-    To(u8),
-    // Parts that arrive on a link at a time, and parts that leave it.
-    Produced,
-    Consumed,
+    // A station that a link leads from or to, by its place in the entry, of so many stations.
+    Station(u8, u8),
+    // Parts that arrive on a link at a time, or leave it, by their place in the entry.
+    Batch(u8),
     // Parts on a link at first, and parts that it has room for.
     Stock,
     Capacity,
@@ -39,10 +37,8 @@ impl Number {
             Number::Share => within(3, 1, 1_000_000, value),
             Number::Unit => within(4, 1, 10_000_000_000, value),
             Number::Duration => within(1, 1, 10_000, value),
-            Number::From(stations) => below(1, stations, value),
-            Number::To(stations) => below(2, stations, value),
-            Number::Produced => within(1, 1, 1_000, value),
-            Number::Consumed => within(2, 1, 1_000, value),
+            Number::Station(which, stations) => below(which, stations, value),
+            Number::Batch(which) => within(which, 1, 1_000, value),
             Number::Stock => within(3, 0, 10_000, value),
             Number::Capacity => within(4, 0, 10_000, value),
         }

@@ -4,7 +4,7 @@ ghost use Rattle.drafts.specs.Stages.{blank};
 use nets::{LinkEnds, LinkTerms};
 
 // Where a draft's entries stand; lent to its stages at each call. A link's ends and its terms come in two stages, so each has a column of its own.
-// Nothing here asks for memory, so the columns are arrays; how many entries they hold stands in the stage.
+// The columns are arrays, so that tables are `Copy`; how many entries they hold stands in the stage.
 #[derive(Clone, Copy)]
 pub struct Tables {
     pub durations: [u16; 64],

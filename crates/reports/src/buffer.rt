@@ -47,8 +47,6 @@ impl Report {
         requires { length self.old + length bytes.now ≤ CAPACITY }
         ensures { self.new ≡ self.old ++ bytes.now }
     {
-        for byte in bytes {
-            self.push(*byte);
-        }
+        self.bytes.try_extend_from_slice(bytes).unwrap();
     }
 }

@@ -182,6 +182,7 @@ impl<'a, L: OrderedLength> Graph<'a, L> {
         unreachable()
     }
 
+    // By node in an array: a kind of length has no blank, which an ArrayVec would need for its unused places.
     // Level after level, from neutral everywhere: the first that raises nothing has the least starts, and the last has a circuit behind it.
     fn search(&self) -> Result<[L; 64], Circuit>
         ensures found { MatchResult result (LeastStarts L.neutral L.joined (comes_before L.cmp) self.now.nodes self.now.edges.now) (λ c. EdgeCircuit L.neutral L.joined (comes_before L.cmp) self.now.edges.now c.items) }

@@ -78,7 +78,7 @@ impl<'a> Steps<'a> {
     }
 
     // The least starts of the stations, and neutral past the last one, or a circuit above neutral, by the number of each step.
-    // It does not matter what `memory` holds. The caller makes it, who knows the kind of length: generic code cannot know that it fits.
+    // It does not matter what `memory` holds. The caller makes it: code for any kind of length may hold an array of it only where its signature has one.
     pub(crate) fn search<L: StepLength>(
         &self,
         memory: &mut [Edge<L>; 320],

@@ -27,6 +27,7 @@ impl Board {
         self.load_draft(filled, tables, list)
     }
 
+    // The load; `load` shows of it that the ledger has it so. What is offered is asked first, since that says of the tables that they are whole.
     fn load_draft(
         &mut self,
         filled: &Filled,

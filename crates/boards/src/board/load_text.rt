@@ -23,6 +23,7 @@ impl Board {
         self.read_and_load(text, list)
     }
 
+    // The load; `load_text` shows of it that the ledger has it so.
     fn read_and_load<'a>(
         &mut self,
         text: &'a [u8],

@@ -17,7 +17,7 @@ impl<'a> Reader<'a> {
         self.placed(at, number.judge(value))
     }
 
-    // A capacity, or a dash for none.
+    // A capacity, or a dash for none. The number is read as in `judged`, which promises less than is needed here: the stock judges a capacity too.
     pub(crate) fn capacity(&mut self) -> Result<Option<u16>, TextFault<'a>>
         ensures { ReadsCapacity self.old result self.new }
     {

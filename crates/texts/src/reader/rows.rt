@@ -34,10 +34,10 @@ impl Row for LinkEnds {
     ghost form = { λ n i. ends_entry n };
 
     fn read<'a>(reader: &mut Reader<'a>, stations: u8) -> Result<(LinkEnds, usize), TextFault<'a>> {
-        let from = reader.judged(Number::From(stations))?;
+        let from = reader.judged(Number::Station(1, stations))?;
         reader.mark(Mark::Arrow)?;
         let at = reader.at;
-        let to = reader.judged(Number::To(stations))?;
+        let to = reader.judged(Number::Station(2, stations))?;
         let ends = LinkEnds {
             from: from as u8,
             to: to as u8,
@@ -53,9 +53,9 @@ impl Row for LinkTerms {
         reader: &mut Reader<'a>,
         _stations: u8,
     ) -> Result<(LinkTerms, usize), TextFault<'a>> {
-        let produced = reader.judged(Number::Produced)?;
+        let produced = reader.judged(Number::Batch(1))?;
         reader.mark(Mark::Colon)?;
-        let consumed = reader.judged(Number::Consumed)?;
+        let consumed = reader.judged(Number::Batch(2))?;
         reader.mark(Mark::Colon)?;
         let stock = reader.judged(Number::Stock)?;
         reader.mark(Mark::Colon)?;
