@@ -105,13 +105,7 @@ fn show_survey(rt: &impl Print, text: &[u8]) -> Result<()> {
         Err(refusal) => return show_notice(rt, refusal.told()),
     };
     print!(rt; "rates")?;
-    for rate in found
-        .net
-        .net
-        .rates
-        .iter()
-        .take(found.net.net.stations as usize)
-    {
+    for rate in found.net.rates() {
         print!(rt; " {rate}")?;
     }
     let Pace { share, unit } = found.fastest;

@@ -23,12 +23,13 @@ impl CallFault {
     pub fn told(&self) -> Notice
         ensures { result ≡ record { number = (told_of self.now).0; place = Some (told_of self.now).1 } }
     {
-        match *self {
-            CallFault::Range(which) => Notice::at(2, which as u64),
-            CallFault::Capacity(link) => Notice::at(5, link as u64),
-            CallFault::Unbalanced(link) => Notice::at(12, link as u64),
-            CallFault::InUse(link) => Notice::at(13, link as u64),
-            CallFault::NotOpen(link) => Notice::at(14, link as u64),
-        }
+        let (number, place) = match *self {
+            CallFault::Range(which) => (2, which),
+            CallFault::Capacity(link) => (5, link),
+            CallFault::Unbalanced(link) => (12, link),
+            CallFault::InUse(link) => (13, link),
+            CallFault::NotOpen(link) => (14, link),
+        };
+        Notice::at(number, u64::from(place))
     }
 }

@@ -1,4 +1,4 @@
--- What the stages of a draft take and refuse, and when they move on. Assumes nothing.
+-- Blank tables, and the fault of an entry past the size. Assumes nothing.
 use Rattle.std.specs.Prelude.{ℕ, replicate, Some, None, Option, nat_le}
 use Rattle.drafts.specs.declared.tables.Tables.{Tables}
 use Rattle.drafts.specs.declared.stage.NetSizes.{NetSizes}

@@ -42,16 +42,20 @@ pub trait Entry: Copy {
 
     ghost with_column: { Tables → List Self → Tables };
 
+    // How many entries of the kind there are.
     fn count(sizes: NetSizes) -> u8
         ensures { result ≡ count sizes };
 
+    // That its numbers are in range, where there are so many stations.
     fn check(self, stations: u8) -> Result<(), DraftFault>
         ensures { faulted result ≡ fault stations self };
 
+    // That it can stand at its place: a capacity below its stock is told with its link.
     fn check_place(self, place: u8) -> Result<(), DraftFault>
         ensures { faulted result ≡ place_fault place self };
 
-    // Puts the entry in its place, if the column has that one. Written at each kind: a column that is lent would say less plainly what becomes of it.
+    // Puts the entry in its place, if the column has that one; a stage never asks for another. Written at each kind, since a column that is lent
+    // would say less plainly what becomes of the tables.
     fn store(self, tables: &mut Tables, place: u8)
         ensures { tables.new ≡ with_column tables.old (slice_set (column tables.old) place self) };
 

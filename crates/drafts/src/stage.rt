@@ -13,7 +13,7 @@ use nets::{LinkEnds, LinkTerms, Pace};
 use std::marker::PhantomData;
 
 // The entry of the first stage: how many stations and links there are, and the pace.
-#[derive(Clone, Copy)]
+#[derive(Clone, Copy, Debug, PartialEq, Eq)]
 pub struct NetSizes {
     pub stations: u8,
     pub links: u8,
@@ -65,7 +65,7 @@ pub type Ends = Stage<LinkEnds>;
 pub type Terms = Stage<LinkTerms>;
 
 // Nothing is awaited any more. It takes no entry, and can be loaded often. It does not hold the tables: they are large, and their owner lends them at each call.
-#[derive(Clone, Copy)]
+#[derive(Clone, Copy, Debug, PartialEq, Eq)]
 pub struct Filled {
     sizes: NetSizes,
 }
@@ -149,7 +149,7 @@ impl<E: Entry> Stage<E> {
     }
 }
 
-// A `next` at each kind, since the stages that follow differ in what they show.
+// A `next` at each kind: what they share is `complete`, and their clauses name the fields of different stages.
 impl Durations {
     // The next stage, or this one back where durations are missing.
     pub fn next(self) -> Result<Ends, Left<Durations>>

@@ -5,7 +5,7 @@ use nets::{LinkEnds, LinkTerms};
 
 // Where a draft's entries stand; lent to its stages at each call. A link's ends and its terms come in two stages, so each has a column of its own.
 // The columns are arrays, so that tables are `Copy`; how many entries they hold stands in the stage.
-#[derive(Clone, Copy)]
+#[derive(Clone, Copy, Debug, PartialEq, Eq)]
 pub struct Tables {
     pub durations: [u16; 64],
     pub ends: [LinkEnds; 128],

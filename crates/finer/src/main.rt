@@ -61,7 +61,7 @@ impl<L: OrderedLength> OrderedLength for Counted<L> {
     ghost orders = { steps_order L.total L.orders };
 }
 
-// Of two equal lengths the one with more steps comes first, as the derived order has it.
+// What the derived order is, for the gate to prove: of two equal lengths the one with more steps comes first.
 pub fn counted_below<L: OrderedLength>(x: Counted<L>, y: Counted<L>) -> bool
     ensures { result ≡ below_steps (comes_before L.cmp) x y }
 {

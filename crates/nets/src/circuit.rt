@@ -6,7 +6,7 @@ use crate::CircuitStep;
 use arrayvec::ArrayVec;
 
 // What is told of a net without a timetable: the steps of a circuit, with their lengths in ticks.
-#[derive(Drop)]
+#[derive(Debug, PartialEq, Eq, Drop)]
 pub struct Circuit {
     pub steps: ArrayVec<CircuitStep, 64>,
     ghost numbered: { (i : ℕ) → i < array_vec_len steps → step_number (slice_index_or steps.items i no_step).step < 128 },

@@ -106,6 +106,7 @@ impl Notice {
     }
 }
 
+// For programs to print. A report has these words by a contract of its own.
 impl fmt::Display for Notice {
     fn fmt<W: fmt::Write>(&self, f: &mut fmt::Formatter<W>) -> fmt::Result {
         match self.place {

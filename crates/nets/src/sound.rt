@@ -4,7 +4,7 @@ ghost use Rattle.nets.specs.Views.{of_net, Good};
 use crate::Net;
 
 // A net in range whose rates balance every link.
-#[derive(Clone, Copy)]
+#[derive(Clone, Copy, Debug, PartialEq, Eq)]
 pub struct SoundNet {
     pub net: Net,
     ghost good: { ∥ Good net ∥₁ },

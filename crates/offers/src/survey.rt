@@ -23,7 +23,7 @@ pub fn offered_net(filled: &Filled, tables: &Tables) -> Result<SoundNet, Refusal
 }
 
 // A net with its rates, and the fastest pace at which it has a timetable.
-#[derive(Clone, Copy)]
+#[derive(Clone, Copy, Debug, PartialEq, Eq)]
 pub struct NetSurvey {
     pub net: SoundNet,
     pub fastest: Pace,

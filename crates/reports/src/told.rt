@@ -3,7 +3,7 @@ ghost use Rattle.nets.specs.Views.{step_number};
 
 use nets::CircuitStep;
 
-// What a report tells of a timetable: the starts and the periods of the stations, in ticks.
+// What a report tells of a timetable: the starts and the periods of the stations, in ticks. Two lists, as the report has a line for each.
 #[derive(Clone, Copy, Debug, PartialEq, Eq)]
 pub struct Timetable<'a> {
     pub starts: &'a [u64],
