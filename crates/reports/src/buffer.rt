@@ -36,6 +36,7 @@ impl Report {
         self.bytes.as_slice()
     }
 
+    // Each writer asks for room for what it writes: how much differs, so no type says it.
     pub(crate) fn push(&mut self, byte: u8)
         requires { length self.old < CAPACITY }
         ensures { self.new ≡ self.old ++ byte ∷ [] }

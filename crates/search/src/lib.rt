@@ -78,6 +78,7 @@ impl<'a, L: OrderedLength> Graph<'a, L> {
         Some(Graph { nodes, edges })
     }
 
+    // That a number is an edge's is asked of these and of chains: a type for it would be the number with the same fact, made at each use.
     // The node where the edge begins.
     fn begin_of(&self, edge: usize) -> usize
         requires { edge < length self.now.edges.now }

@@ -65,6 +65,7 @@ impl<'a> Steps<'a> {
     }
 
     // The steps as edges: edge e is step e.
+    // By number: a `zip` with `iter_mut` asks for an invariant on what is still lent, and the proof did not close.
     fn put_edges<L: StepLength>(&self, edges: &mut [Edge<L>])
         requires room { length edges.old ≡ array_vec_len self.now.list }
         ensures { edges.new ≡ edges_of (of_net self.now.net.now.net) (L.measured (of_net self.now.net.now.net)) }
