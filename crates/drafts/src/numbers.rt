@@ -1,6 +1,6 @@
 // The numbers of a draft's entries, and where each has to lie.
 ghost use Rattle.std.specs.Prelude.{◌≡◌, ◌-◌, ◌^◌, ◌<◌};
-ghost use Rattle.drafts.specs.Faults.{judged as judged_lem, placed, judged_by, range_fault, station_fault, Capped};
+ghost use Rattle.drafts.specs.Faults.{judged, placed, judged_by, range_fault, station_fault, Capped};
 ghost use Rattle.drafts.specs.Numbers.{fault_of};
 
 use crate::fault::DraftFault;
@@ -48,7 +48,7 @@ impl Number {
 // From low to high.
 fn within(which: u8, low: u64, high: u64, value: u64) -> Result<u64, DraftFault>
     requires { high < 2 ^ 64 - 1 }
-    ensures judged { result ≡ judged_lem which low high value }
+    ensures answer { result ≡ judged which low high value }
     ensures capped { Capped (range_fault which low high) }
 {
     if value < low || value > high {
@@ -59,7 +59,7 @@ fn within(which: u8, low: u64, high: u64, value: u64) -> Result<u64, DraftFault>
 
 // One of so many, counted from 0.
 fn below(which: u8, count: u8, value: u64) -> Result<u64, DraftFault>
-    ensures judged { result ≡ placed which count value }
+    ensures answer { result ≡ placed which count value }
     ensures capped { Capped (station_fault which count) }
 {
     if value >= u64::from(count) {
