@@ -1,5 +1,6 @@
 ghost use Rattle.std.specs.Prelude.{◌≡◌};
 ghost use Rattle.drafts.specs.Stages.{blank};
+ghost use Rattle.drafts.specs.Checks.{WholeTables};
 
 use nets::{LinkEnds, LinkTerms};
 
@@ -30,4 +31,9 @@ impl Tables {
             terms: [terms; 128],
         }
     }
+
+    // The columns have their lengths. Contracts see tables as lists, and learn it here.
+    pub fn whole(&self)
+        ensures { WholeTables self.now }
+    {}
 }

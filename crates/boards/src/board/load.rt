@@ -27,7 +27,7 @@ impl Board {
         self.load_draft(filled, tables, list)
     }
 
-    // The load; `load` shows of it that the ledger has it so. What is offered is asked first, since that says of the tables that they are whole.
+    // The load; `load` shows of it that the ledger has it so.
     fn load_draft(
         &mut self,
         filled: &Filled,
@@ -37,11 +37,11 @@ impl Board {
         ensures loaded { Loaded filled.now.sizes tables.now self.old list.old result self.new list.new }
         ensures whole { WholeTables tables.now }
     {
-        let offered = offered_net(filled, tables);
+        tables.whole();
         if list.len() < 64 {
             return Err(Refusal::ShortList(list.len()));
         }
-        let net = offered?;
+        let net = offered_net(filled, tables)?;
         self.settle(net, list)
     }
 }
