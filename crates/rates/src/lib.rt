@@ -92,10 +92,9 @@ impl Numbers {
     fn lead_on(&self, link: Link) -> Option<Lead>
         ensures { OnwardBy (of_link link) self.now.z result }
     {
-        let lead = Lead::from(link);
-        match (self.of(lead.from), self.of(lead.to)) {
-            (Some(_), None) => Some(lead),
-            (None, Some(_)) => Some(lead.turned()),
+        match (self.of(link.ends.from), self.of(link.ends.to)) {
+            (Some(_), None) => Some(Lead::from(link)),
+            (None, Some(_)) => Some(Lead::from(link).turned()),
             _ => None,
         }
     }
