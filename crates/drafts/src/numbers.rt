@@ -27,6 +27,7 @@ pub enum Number {
 
 impl Number {
     // The value, where it is in range; else the draft's fault, which tells the number's place in its entry. The largest `u64` may stand for all above it.
+    #[inline(always)]
     pub fn judge(self, value: u64) -> Result<u64, DraftFault>
         ensures judged { result ≡ judged_by (fault_of self value) value }
         ensures capped { Capped (fault_of self) }

@@ -8,7 +8,8 @@ use crate::reader::Reader;
 use drafts::numbers::Number;
 
 impl<'a> Reader<'a> {
-    // A number that the draft judges.
+    // A number that the draft judges. Each number of the form is read in one place, where its range is then a constant.
+    #[inline(always)]
     pub(crate) fn judged(&mut self, number: Number) -> Result<u64, TextFault<'a>>
         ensures { Asks self.old (fault_of number) result self.new }
     {
