@@ -74,37 +74,45 @@ fn unescaped(alloc: Global, line: &[u8]) -> Result<Vec<u8>, AllocError> {
     }
 }
 
-// Prints the report on one line: a comma and a space stand between its lines.
-fn show_plan(rt: &impl Print, text: &[u8]) -> Result<()> {
+// The report on one line: a comma and a space stand between its lines.
+fn one_line(alloc: Global, report: &str) -> Result<String, AllocError> {
+    let mut text = String::new(alloc);
+    for (i, line) in report.lines().enumerate() {
+        if i > 0 {
+            text.push_str(", ")?;
+        }
+        text.push_str(line)?;
+    }
+    Ok(text)
+}
+
+// Each of these prints the line of a case behind its number, once nothing more can fail but printing.
+fn show_plan(rt: &impl Print, alloc: Global, number: u64, text: &[u8]) -> Result<()> {
     let mut report = [0u8; 4_096];
     let Ok(end) = plan(text, &mut report) else {
         return Err(anyhow!("the buffer is too short"));
     };
-    let report = str::from_utf8(&report[..end])?;
-    for (i, line) in report.lines().enumerate() {
-        let between = if i == 0 { "" } else { ", " };
-        print!(rt; "{between}{line}")?;
-    }
-    println!(rt; "")?;
+    let line = one_line(alloc, str::from_utf8(&report[..end])?)?;
+    println!(rt; "{number}: {line}")?;
     Ok(())
 }
 
-fn show_notice(rt: &impl Print, notice: Notice) -> Result<()> {
-    println!(rt; "{notice}")?;
+fn show_notice(rt: &impl Print, number: u64, notice: Notice) -> Result<()> {
+    println!(rt; "{number}: {notice}")?;
     Ok(())
 }
 
-fn show_survey(rt: &impl Print, text: &[u8]) -> Result<()> {
+fn show_survey(rt: &impl Print, number: u64, text: &[u8]) -> Result<()> {
     let mut tables = Tables::new();
     let filled = match read(text, &mut tables) {
         Ok(filled) => filled,
-        Err(fault) => return show_notice(rt, fault.told()),
+        Err(fault) => return show_notice(rt, number, fault.told()),
     };
     let found = match survey(&filled, &tables) {
         Ok(found) => found,
-        Err(refusal) => return show_notice(rt, refusal.told()),
+        Err(refusal) => return show_notice(rt, number, refusal.told()),
     };
-    print!(rt; "rates")?;
+    print!(rt; "{number}: rates")?;
     for rate in found.net.rates() {
         print!(rt; " {rate}")?;
     }
@@ -114,7 +122,7 @@ fn show_survey(rt: &impl Print, text: &[u8]) -> Result<()> {
 }
 
 // A load with a list of 63 steps.
-fn show_short_list(rt: &impl Print, text: &[u8]) -> Result<()> {
+fn show_short_list(rt: &impl Print, number: u64, text: &[u8]) -> Result<()> {
     let unused = CircuitStep {
         step: Step::Own(0),
         length: 0,
@@ -123,17 +131,17 @@ fn show_short_list(rt: &impl Print, text: &[u8]) -> Result<()> {
     let mut board = Board::new();
     match board.load_text(text, &mut list) {
         Ok(()) => Err(anyhow!("a short list was taken")),
-        Err(LoadFault::Text(fault)) => show_notice(rt, fault.told()),
-        Err(LoadFault::Board(refusal)) => show_notice(rt, refusal.told()),
+        Err(LoadFault::Text(fault)) => show_notice(rt, number, fault.told()),
+        Err(LoadFault::Board(refusal)) => show_notice(rt, number, refusal.told()),
     }
 }
 
 // A report into a buffer of 4,095 bytes.
-fn show_short_buffer(rt: &impl Print, text: &[u8]) -> Result<()> {
+fn show_short_buffer(rt: &impl Print, number: u64, text: &[u8]) -> Result<()> {
     let mut out = [0u8; 4_095];
     match plan(text, &mut out) {
         Ok(_) => Err(anyhow!("a short buffer was taken")),
-        Err(short) => show_notice(rt, Notice::at(7, short.length as u64)),
+        Err(short) => show_notice(rt, number, Notice::at(7, short.length as u64)),
     }
 }
 
@@ -170,7 +178,7 @@ fn no_duration() -> Option<DraftFault> {
     durations.take(&mut Tables::new(), 0).err()
 }
 
-fn show_draft(rt: &impl Print, what: &str) -> Result<()> {
+fn show_draft(rt: &impl Print, number: u64, what: &str) -> Result<()> {
     // Three things to do, each by its name in the input.
     let fault = match what {
         "a duration missing" => missing_duration(),
@@ -178,19 +186,19 @@ fn show_draft(rt: &impl Print, what: &str) -> Result<()> {
         _ => no_duration(),
     };
     match fault {
-        Some(fault) => show_notice(rt, fault.told()),
+        Some(fault) => show_notice(rt, number, fault.told()),
         None => Err(anyhow!("the draft took it")),
     }
 }
 
-fn show(rt: &impl Print, alloc: Global, case: Case, rest: &str) -> Result<()> {
-    let text = unescaped(alloc, rest.as_bytes())?;
+fn show(rt: &impl Print, alloc: Global, number: u64, case: Case, rest: &str) -> Result<()> {
+    let text = || unescaped(alloc, rest.as_bytes());
     match case {
-        Case::Plan => show_plan(rt, &text),
-        Case::Survey => show_survey(rt, &text),
-        Case::ShortList => show_short_list(rt, &text),
-        Case::ShortBuffer => show_short_buffer(rt, &text),
-        Case::Draft => show_draft(rt, rest),
+        Case::Plan => show_plan(rt, alloc, number, &text()?),
+        Case::Survey => show_survey(rt, number, &text()?),
+        Case::ShortList => show_short_list(rt, number, &text()?),
+        Case::ShortBuffer => show_short_buffer(rt, number, &text()?),
+        Case::Draft => show_draft(rt, number, rest),
     }
 }
 
@@ -205,8 +213,7 @@ fn main(rt: HostRuntime) -> Result<()> {
             let Some((case, rest)) = case_of(&line) else {
                 return Err(anyhow!("a line that is no case"));
             };
-            print!(rt; "{number}: ")?;
-            show(&rt, rt.alloc(), case, rest)?;
+            show(&rt, rt.alloc(), number, case, rest)?;
         }
     }
     Ok(())
