@@ -127,13 +127,15 @@ where
             }
             Ok(())
         }
-        Err(SearchError::Above(circuit)) => {
-            for edge in circuit.iter() {
-                println!(rt; "circuit by edge {edge}")?;
+        Err(error) => match error {
+            SearchError::Above(circuit) => {
+                for edge in circuit.iter() {
+                    println!(rt; "circuit by edge {edge}")?;
+                }
+                Ok(())
             }
-            Ok(())
-        }
-        Err(SearchError::Unsearchable) => println!(rt; "cannot be asked"),
+            SearchError::Unsearchable => println!(rt; "cannot be asked"),
+        },
     }
 }
 
