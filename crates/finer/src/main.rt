@@ -127,6 +127,7 @@ where
             }
             Ok(())
         }
+        // A match of its own: a pattern through both enums gets no proof.
         Err(error) => match error {
             SearchError::Above(circuit) => {
                 for edge in circuit.iter() {

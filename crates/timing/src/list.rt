@@ -90,6 +90,7 @@ impl<'a> Steps<'a> {
         self.put_edges(edges);
         match least_starts(self.net.net.stations as usize, edges) {
             Ok(starts) => Ok(starts),
+            // A match of its own: a pattern through both enums gets no proof.
             Err(error) => match error {
                 SearchError::Above(circuit) => Err(circuit),
                 SearchError::Unsearchable => unreachable(),
