@@ -127,13 +127,16 @@ where
             }
             Ok(())
         }
-        Err(SearchError::Above(circuit)) => {
-            for edge in circuit.iter() {
-                println!(rt; "circuit by edge {edge}")?;
+        // A match of its own: a pattern through both enums gets no proof.
+        Err(error) => match error {
+            SearchError::Above(circuit) => {
+                for edge in circuit.iter() {
+                    println!(rt; "circuit by edge {edge}")?;
+                }
+                Ok(())
             }
-            Ok(())
-        }
-        Err(SearchError::Unsearchable) => println!(rt; "cannot be asked"),
+            SearchError::Unsearchable => println!(rt; "cannot be asked"),
+        },
     }
 }
 

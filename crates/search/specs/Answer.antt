@@ -14,7 +14,7 @@ Asked neutral size largest nodes es (Err Unsearchable) = Searchable neutral size
 -- The least starts, or a circuit above neutral.
 abbrev pub Answered : {L : Type 0} → L → (L → L → L) → (L → L → Bool) → ℕ → List (Edge L) → Result (List L) SearchError → Type 0
 Answered neutral joined below nodes es (Ok starts) = LeastStarts neutral joined below nodes es starts
-Answered neutral joined below nodes es (Err (Above c)) = EdgeCircuit neutral joined below es c.items
+Answered neutral joined below nodes es (Err (Above c)) = EdgeCircuit neutral joined below es c
 Answered neutral joined below nodes es (Err Unsearchable) = Unit {0}
 
 -- From the last node on every place is neutral.

@@ -9,6 +9,9 @@ ghost use Rattle.search.specs.Answer.{Asked, Answered, NeutralPast};
 
 use arrayvec::ArrayVec;
 use lengths::OrderedLength;
+use std::fmt;
+use std::marker::Model;
+use std::ops::DerefSlice;
 
 // The node `to` starts at least the length after the node `from`.
 #[derive(Clone, Copy, Debug, PartialEq, Eq)]
@@ -18,11 +21,75 @@ pub struct Edge<L> {
     pub length: L,
 }
 
+// A chain as it is walked: its edges in their order, each by its place among the edges that are searched.
+type Chain = ArrayVec<usize, 64>;
+
 // A circuit: its edges in their order, each by its place among the edges that were searched.
-pub type Circuit = ArrayVec<usize, 64>;
+// An array with a count, since an `ArrayVec` is never `Copy`. Zeros stand behind the edges, so that the edges alone make the value.
+#[derive(Clone, Copy, PartialEq, Eq)]
+pub struct Circuit {
+    edges: [usize; 64],
+    count: usize,
+}
+
+impl Model for Circuit {
+    ghost use Rattle.std.specs.Prelude.{◌≡◌, ℕ, ◌-◌, ◌≤◌, List, ◌++◌, length, take, drop, replicate};
+    ghost use Rattle.std.proofs.Common.{sym, ap, ◌∙◌, arith, take-append-drop, length-take-le};
+
+    ghost Value = { List ℕ };
+
+    ghost view = { λ c. take c.count c.edges };
+
+    ghost invariant = { λ c. (c.count ≤ 64) × (length c.edges ≡ 64) × (drop c.count c.edges ≡ replicate (64 - c.count) 0) };
+
+    ghost inverse = { λ edges. record { edges = edges ++ replicate (64 - length edges) 0; count = length edges } };
+
+    ghost inverse_ok = { λ c h i. record {
+      edges = (ap (λ n. take c.count c.edges ++ replicate (64 - n) 0) (length-take-le c.count c.edges (omega (arith, h.0, h.1)))
+          ∙ ap (λ rest. take c.count c.edges ++ rest) (sym h.2) ∙ take-append-drop c.count c.edges) i;
+      count = length-take-le c.count c.edges (omega (arith, h.0, h.1)) i;
+    } };
+}
+
+impl Circuit {
+    // The circuit of the chain's edges.
+    fn new(chain: &Chain) -> Circuit
+        ensures { result ≡ chain.now.items }
+    {
+        let mut edges = [0; 64];
+        let count = chain.len();
+        edges[..count].copy_from_slice(chain);
+        Circuit { edges, count }
+    }
+
+    // The edges.
+    pub fn as_slice(&self) -> &[usize]
+        ensures edges { result.now ≡ self.now }
+        ensures few { length result.now ≤ 64 }
+    {
+        &self.edges[..self.count]
+    }
+}
+
+impl DerefSlice for Circuit {
+    type Elem = usize;
+
+    ghost deref_gives = { λ c edges. (edges ≡ c) × (length edges ≤ 64) };
+
+    fn deref(&self) -> &[usize] {
+        self.as_slice()
+    }
+}
+
+// By hand: a list of the edges, with nothing of the zeros behind them.
+impl fmt::Debug for Circuit {
+    fn fmt<W: fmt::Write>(&self, f: &mut fmt::Formatter<W>) -> fmt::Result {
+        f.debug_list().entries(self.as_slice()).finish()
+    }
+}
 
 // Why there are no least starts.
-#[derive(Debug, PartialEq, Eq, Drop)]
+#[derive(Clone, Copy, Debug, PartialEq, Eq)]
 pub enum SearchError {
     // The edges cannot be searched.
     Unsearchable,
@@ -134,21 +201,21 @@ impl<'a, L: OrderedLength> Graph<'a, L> {
         place
     }
 
-    // The closed chain that rises, from its lowest node.
-    fn from_lowest(&self, mut chain: Circuit) -> Circuit
+    // The circuit of the closed chain that rises, from its lowest node.
+    fn from_lowest(&self, mut chain: Chain) -> Circuit
         requires { Rising L.neutral L.joined (comes_before L.cmp) self.now.edges.now chain.items }
-        ensures { EdgeCircuit L.neutral L.joined (comes_before L.cmp) self.now.edges.now result.items }
+        ensures { EdgeCircuit L.neutral L.joined (comes_before L.cmp) self.now.edges.now result }
     {
         let lowest = self.lowest_place(&chain);
         chain.rotate_left(lowest);
-        chain
+        Circuit::new(&chain)
     }
 
     // The circuit of the chain up to and with the edge at the place.
-    fn circuit_to(&self, mut chain: Circuit, place: usize) -> Circuit
+    fn circuit_to(&self, mut chain: Chain, place: usize) -> Circuit
         requires inside { place < length chain.items }
         requires rising { Rising L.neutral L.joined (comes_before L.cmp) self.now.edges.now (take (place + 1) chain.items) }
-        ensures { EdgeCircuit L.neutral L.joined (comes_before L.cmp) self.now.edges.now result.items }
+        ensures { EdgeCircuit L.neutral L.joined (comes_before L.cmp) self.now.edges.now result }
     {
         chain.truncate(place + 1);
         self.from_lowest(chain)
@@ -168,7 +235,7 @@ impl<'a, L: OrderedLength> Graph<'a, L> {
         requires raised { Marked vias.now self.now.nodes last }
         requires node { last < self.now.nodes }
         requires all { length vias.now ≡ self.now.nodes }
-        ensures { EdgeCircuit L.neutral L.joined (comes_before L.cmp) self.now.edges.now result.items }
+        ensures { EdgeCircuit L.neutral L.joined (comes_before L.cmp) self.now.edges.now result }
     {
         let mut chain = ArrayVec::new();
         let mut node = last;
@@ -186,7 +253,7 @@ impl<'a, L: OrderedLength> Graph<'a, L> {
     // By node in an array: a kind of length has no blank, which an ArrayVec would need for its unused places.
     // Level after level, from neutral everywhere: the first that raises nothing has the least starts, and the last has a circuit behind it.
     fn search(&self) -> Result<[L; 64], Circuit>
-        ensures found { MatchResult result (LeastStarts L.neutral L.joined (comes_before L.cmp) self.now.nodes self.now.edges.now) (λ c. EdgeCircuit L.neutral L.joined (comes_before L.cmp) self.now.edges.now c.items) }
+        ensures found { MatchResult result (LeastStarts L.neutral L.joined (comes_before L.cmp) self.now.nodes self.now.edges.now) (λ c. EdgeCircuit L.neutral L.joined (comes_before L.cmp) self.now.edges.now c) }
         ensures past { IfOk result (NeutralPast L.neutral self.now.nodes) }
     {
         let mut starts = [L::none(); 64];
@@ -217,6 +284,8 @@ pub fn least_starts<L: OrderedLength>(
     ensures answered { Answered L.neutral L.joined (comes_before L.cmp) nodes edges.now result }
     ensures past { IfOk result (NeutralPast L.neutral nodes) }
 {
-    let graph = Graph::new(nodes, edges).ok_or(SearchError::Unsearchable)?;
+    let Some(graph) = Graph::new(nodes, edges) else {
+        return Err(SearchError::Unsearchable);
+    };
     graph.search().map_err(SearchError::Above)
 }

@@ -10,7 +10,6 @@ use Rattle.rules.proofs.Existence.{pair_starts_allow_lem}
 use Rattle.lengths.specs.Models.{more_pair, below_pair}
 use Rattle.search.specs.declared.Edge.{Edge}
 use Rattle.search.specs.Terms.{ends, EdgeChain, total, EdgeCircuit, LeastStarts}
-use Rattle.arrayvec.specs.ArrayVec.{ArrayVec}
 use Rattle.std.specs.Result.{is_err}
 use Rattle.std.specs.Ordering.{ordering_then, is_lt, int_cmp}
 use Rattle.nets.specs.declared.sound.SoundNet.{SoundNet}
@@ -88,13 +87,13 @@ module _ (N : Net) where
 
 -- What a search over pairs finds of a sound net
 module _ (net : SoundNet) (net' : SoundNet) (same : net' ≡ net) where
-  pub told_above : (r : Result (List (ℤ × ℤ)) (ArrayVec ℕ)) → Found no_pair (more_pair ◌+ℤ◌) (λ x y. is_lt (ordering_then (int_cmp x.0 y.0) (int_cmp x.1 y.1))) net'.net (pair (of_net net'.net)) r → is_err r ≡ true → PairCircuit (of_net net.net)
+  pub told_above : (r : Result (List (ℤ × ℤ)) (List ℕ)) → Found no_pair (more_pair ◌+ℤ◌) (λ x y. is_lt (ordering_then (int_cmp x.0 y.0) (int_cmp x.1 y.1))) net'.net (pair (of_net net'.net)) r → is_err r ≡ true → PairCircuit (of_net net.net)
   told_above (Ok best) f e = absurd (false≢true e)
   told_above (Err c) f e =
-      let C = subst (λ below. EdgeCircuit no_pair (more_pair ◌+ℤ◌) below (edges_of (of_net net'.net) (pair (of_net net'.net))) c.items) pair_order f in
-      subst (λ (z : SoundNet). PairCircuit (of_net z.net)) same (pair_circuit (of_net net'.net) c.items C)
+      let C = subst (λ below. EdgeCircuit no_pair (more_pair ◌+ℤ◌) below (edges_of (of_net net'.net) (pair (of_net net'.net))) c) pair_order f in
+      subst (λ (z : SoundNet). PairCircuit (of_net z.net)) same (pair_circuit (of_net net'.net) c C)
 
-  pub told_allowed : (r : Result (List (ℤ × ℤ)) (ArrayVec ℕ)) → Found no_pair (more_pair ◌+ℤ◌) (λ x y. is_lt (ordering_then (int_cmp x.0 y.0) (int_cmp x.1 y.1))) net'.net (pair (of_net net'.net)) r → is_err r ≡ false → SomePace (of_net net.net)
+  pub told_allowed : (r : Result (List (ℤ × ℤ)) (List ℕ)) → Found no_pair (more_pair ◌+ℤ◌) (λ x y. is_lt (ordering_then (int_cmp x.0 y.0) (int_cmp x.1 y.1))) net'.net (pair (of_net net'.net)) r → is_err r ≡ false → SomePace (of_net net.net)
   told_allowed (Ok best) f e =
       let L = subst (λ below. LeastStarts no_pair (more_pair ◌+ℤ◌) below net'.net.stations (edges_of (of_net net'.net) (pair (of_net net'.net))) best) pair_order f.0 in
       subst (λ (z : SoundNet). SomePace (of_net z.net)) same (some_pace (of_net net'.net) (good _ net'.good).sound best net'.net.stations L)

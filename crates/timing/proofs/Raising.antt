@@ -51,7 +51,7 @@ module _ (N : Net) (G : Good N) (c : Circuit) (R : Refused N c) where
   M = of_net N
 
   abbrev cs : List CircuitStep
-  cs = c.steps.items
+  cs = c.steps
 
   abbrev ks : List Step
   ks = map step_of cs

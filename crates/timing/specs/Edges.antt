@@ -5,7 +5,6 @@ use Rattle.rules.specs.Net as rules
 use Rattle.rules.specs.Steps.{Step, leads_from, leads_to, shares, time, ticks}
 use Rattle.lengths.specs.declared.Ticks.{Ticks}
 use Rattle.lengths.specs.Models.{of_ticks}
-use Rattle.arrayvec.specs.ArrayVec.{ArrayVec}
 use Rattle.search.specs.declared.Edge.{Edge}
 use Rattle.search.specs.Terms.{LeastStarts, EdgeCircuit}
 use Rattle.search.specs.Answer.{NeutralPast}
@@ -27,9 +26,9 @@ abbrev pub edges_of : {L : Type 0} → rules.Net → (Step → L) → List (Edge
 edges_of N w = map (edge_of N w) (steps_of N)
 
 -- What a search over the steps finds, for lengths of a kind: the least starts, neutral past the last station; or a circuit above neutral.
-abbrev pub Found : {L : Type 0} → L → (L → L → L) → (L → L → Bool) → Net → (Step → L) → Result (List L) (ArrayVec ℕ) → Type 0
+abbrev pub Found : {L : Type 0} → L → (L → L → L) → (L → L → Bool) → Net → (Step → L) → Result (List L) (List ℕ) → Type 0
 Found neutral joined below N w (Ok starts) = LeastStarts neutral joined below N.stations (edges_of (of_net N) w) starts × NeutralPast neutral N.stations starts
-Found neutral joined below N w (Err circuit) = EdgeCircuit neutral joined below (edges_of (of_net N) w) circuit.items
+Found neutral joined below N w (Err circuit) = EdgeCircuit neutral joined below (edges_of (of_net N) w) circuit
 
 -- The two kinds: its pair, shares and time; and its length in ticks.
 abbrev pub pair : rules.Net → Step → ℤ × ℤ

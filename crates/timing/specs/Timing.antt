@@ -1,6 +1,5 @@
 -- What is answered of a net: its least timetable, or a circuit that leaves it none. Assumes nothing.
 use Rattle.std.specs.Prelude.{◌≡◌, ℕ, ◌<◌, ◌≤◌, List, map, length, pos, ◌<ℤ◌, slice_index, slice_index_or, unsigned_abs}
-use Rattle.arrayvec.specs.ArrayVec.{array_vec_len}
 use Rattle.rules.specs.Net as rules
 use Rattle.rules.specs.Rules.{NoTimetable}
 use Rattle.rules.specs.Steps.{Circuit as Closed, leads_from, ticks, ticks_of}
@@ -41,6 +40,6 @@ told_step N s = record { step = s; length = ticks N (of_step s) }
 
 -- A circuit of the net is told; no length is above 10^16 ticks in size.
 pub record Refused (N : Net) (c : Circuit) : Type 0 where
-  pub few : array_vec_len c.steps ≤ 64
-  pub told : Told (of_net N) c.steps.items
-  pub lengths_sized : (t : ℕ) → unsigned_abs (slice_index_or c.steps.items t no_step).length ≤ 10_000_000_000_000_000
+  pub few : length c.steps ≤ 64
+  pub told : Told (of_net N) c.steps
+  pub lengths_sized : (t : ℕ) → unsigned_abs (slice_index_or c.steps t no_step).length ≤ 10_000_000_000_000_000

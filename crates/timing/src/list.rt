@@ -90,16 +90,19 @@ impl<'a> Steps<'a> {
         self.put_edges(edges);
         match least_starts(self.net.net.stations as usize, edges) {
             Ok(starts) => Ok(starts),
-            Err(SearchError::Above(circuit)) => Err(circuit),
-            Err(SearchError::Unsearchable) => unreachable(),
+            // A match of its own: a pattern through both enums gets no proof.
+            Err(error) => match error {
+                SearchError::Above(circuit) => Err(circuit),
+                SearchError::Unsearchable => unreachable(),
+            },
         }
     }
 
     // The circuit of the steps of these numbers, with their lengths.
     pub(crate) fn told(&self, circuit: &Circuit) -> ArrayVec<CircuitStep, 64>
-        requires known { All (λ e. e < array_vec_len self.now.list) circuit.now.items }
+        requires known { All (λ e. e < array_vec_len self.now.list) circuit.now }
         ensures few { array_vec_len result ≤ 64 }
-        ensures steps { result.items ≡ map (λ e. told_step (of_net self.now.net.now.net) (slice_index_or self.now.list.items e (Forward 0))) circuit.now.items }
+        ensures steps { result.items ≡ map (λ e. told_step (of_net self.now.net.now.net) (slice_index_or self.now.list.items e (Forward 0))) circuit.now }
     {
         let mut told = ArrayVec::new();
         for &e in circuit.iter() {

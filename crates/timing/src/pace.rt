@@ -30,7 +30,7 @@ fn pairs_above(net: &SoundNet) -> bool
 // The pair of a circuit: its shares and its time.
 fn circuit_pair(net: &SoundNet, circuit: &Circuit) -> (i64, i64)
     requires refused { Refused net.now.net circuit.now }
-    ensures { result ≡ pair_of (of_net net.now.net) (map step_of circuit.now.steps.items) }
+    ensures { result ≡ pair_of (of_net net.now.net) (map step_of circuit.now.steps) }
 {
     let mut sum = (0, 0);
     for told in circuit.steps.iter() {

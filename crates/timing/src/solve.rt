@@ -4,7 +4,7 @@ ghost use Rattle.timing.specs.Timing.{start_of, Timed, Refused};
 
 use crate::list::{Steps, edge_memory};
 use lengths::Ticks;
-use nets::circuit::Circuit;
+use nets::circuit::{Circuit, CircuitSteps};
 use nets::sound::SoundNet;
 use nets::timed::TimedNet;
 
@@ -33,7 +33,8 @@ pub(crate) fn solve_net(net: &SoundNet) -> Result<TimedNet, Circuit>
             Ok(TimedNet { net: *net, starts })
         }
         Err(circuit) => {
-            let steps = steps.told(&circuit);
+            let told = steps.told(&circuit);
+            let steps = CircuitSteps::new(&told);
             Err(Circuit { steps })
         }
     }

@@ -14,5 +14,5 @@ pub returns : goal.returns
 returns g c =
     let now : c.rotate_left.new.self ≡ turned c.lowest_place-lowest.result c.args.chain.items = c.rotate_left.ensures.after ∙ ap (turned c.lowest_place-lowest.result) c.deref_mut.ensures.value in
     let kept = items-with_items c.args.chain c.rotate_left.new.self (c.rotate_left.ensures.len ∙ ap length c.deref_mut.ensures.value) in
-    rw (kept, now)
+    rw (c.new.ensures, kept, now)
     (circuit_from g.met.L.Joining.joins g.met.L.OrderedLength.orders c.args.self.now.edges.now c.args.chain.items c.lowest_place-lowest.result c.requires (rw c.deref.ensures.0 at c.lowest_place-lowest.ensures))

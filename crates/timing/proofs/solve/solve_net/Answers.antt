@@ -1,4 +1,4 @@
-use Rattle.std.proofs.Common.{◌≡◌, ℕ, ◌≤◌, get_or, take, sym, refl, subst, arith, rules}
+use Rattle.std.proofs.Common.{◌≡◌, ℕ, ◌≤◌, length, get_or, take, sym, refl, ap, ◌∙◌, subst, arith, rules}
 use Rattle.rules.specs.Rules.{Least}
 use Rattle.lengths.specs.Models.{no_ticks, more_ticks}
 use Rattle.search.specs.Terms.{LeastStarts, EdgeCircuit}
@@ -36,14 +36,14 @@ returns-in-Ok c =
       starts_sized = starts_sized net.net G best L c.in-Ok.ensures.1 starts (search rules) c.starts_at-starts.ensures;
     }
 
-pub told-steps-requires : goal.told-steps-requires
-told-steps-requires c =
+pub told-told-requires : goal.told-told-requires
+told-told-requires c =
     let steps = c.of-steps.result in
     let net = steps.net.now in
     let N = of_net net.net in
     let items = steps.list.items in
-    let C = subst (λ below. EdgeCircuit no_ticks more_ticks below (edges_of N (in_ticks N)) c.in-Err.circuit.items) ticks_order c.in-Err.ensures in
-    record { known = known_in net.net (good _ net.good) items (listed N items items steps.all refl) c.in-Err.circuit.items C }
+    let C = subst (λ below. EdgeCircuit no_ticks more_ticks below (edges_of N (in_ticks N)) c.in-Err.circuit) ticks_order c.in-Err.ensures in
+    record { known = known_in net.net (good _ net.good) items (listed N items items steps.all refl) c.in-Err.circuit C }
 
 pub invariant_of-result-in-Err : goal.invariant_of-result-in-Err
 invariant_of-result-in-Err c =
@@ -51,12 +51,14 @@ invariant_of-result-in-Err c =
     let net = steps.net.now in
     let N = of_net net.net in
     let items = steps.list.items in
-    let cs = c.in-Err.circuit.items in
+    let cs = c.in-Err.circuit in
+    let told = c.new-steps.result in
+    let steps_are = c.new-steps.ensures ∙ c.told-told.ensures.steps in
     let C = subst (λ below. EdgeCircuit no_ticks more_ticks below (edges_of N (in_ticks N)) cs) ticks_order c.in-Err.ensures in
     let q = listed N items items steps.all refl in
     record {
-      numbered = numbered net.net (good _ net.good) items q cs C c.told-steps.result.items c.told-steps.ensures.steps;
-      sized = λ i h. omega (arith, sized net.net (good _ net.good) items q cs C c.told-steps.result.items c.told-steps.ensures.steps i h);
+      numbered = numbered net.net (good _ net.good) items q cs C told steps_are;
+      sized = λ i h. omega (arith, sized net.net (good _ net.good) items q cs C told steps_are i h);
     }
 
 pub returns-in-Err : goal.returns-in-Err
@@ -65,11 +67,13 @@ returns-in-Err c =
     let net = steps.net.now in
     let N = of_net net.net in
     let items = steps.list.items in
-    let cs = c.in-Err.circuit.items in
+    let cs = c.in-Err.circuit in
+    let told = c.new-steps.result in
+    let steps_are = c.new-steps.ensures ∙ c.told-told.ensures.steps in
     let C = subst (λ below. EdgeCircuit no_ticks more_ticks below (edges_of N (in_ticks N)) cs) ticks_order c.in-Err.ensures in
     let q = listed N items items steps.all refl in
     record {
-      few = c.told-steps.ensures.few;
-      told = subst (λ (z : SoundNet). Told (of_net z.net) c.told-steps.result.items) c.of-steps.ensures (subst (Told N) (sym c.told-steps.ensures.steps) (told_all net.net (good _ net.good) items q cs C));
-      lengths_sized = all_sized net.net (good _ net.good) items q cs C c.told-steps.result.items c.told-steps.ensures.steps;
+      few = omega (arith, ap length c.new-steps.ensures, c.told-told.ensures.few);
+      told = subst (λ (z : SoundNet). Told (of_net z.net) told) c.of-steps.ensures (subst (Told N) (sym steps_are) (told_all net.net (good _ net.good) items q cs C));
+      lengths_sized = all_sized net.net (good _ net.good) items q cs C told steps_are;
     }

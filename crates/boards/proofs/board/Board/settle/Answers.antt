@@ -20,8 +20,8 @@ pub returns-in-Err : goal.returns-in-Err
 returns-in-Err c =
     let R = c.in-Err.ensures in
     let n = length c.as_slice-steps.result.now in
-    let e : c.as_slice-steps.result.now ≡ c.in-Err.circuit.steps.items = search rules in
-    let f : c.copy_from_slice.new.self ≡ c.in-Err.circuit.steps.items = search rules in (
+    let e : c.as_slice-steps.result.now ≡ c.in-Err.circuit.steps = search rules in
+    let f : c.copy_from_slice.new.self ≡ c.in-Err.circuit.steps = search rules in (
       written (of_net c.args.net.net) n c.args.list.now c.copy_from_slice.new.self _ (omega (arith, R.few, ap length e)) (ap length f ∙ sym (ap length e)) refl
           (subst (Told (of_net c.args.net.net)) (sym f) R.told),
       refl,

@@ -17,5 +17,5 @@ unreachable-requires g c =
     let s = searched N w J.neutral J.size J.LARGEST G.sound G.range.few (λ z h. g.met.L.StepLength.roomy N G.sound G.range z h) in
     let k = subst (λ n. Searchable J.neutral J.size J.LARGEST n (edges_of N w)) (stations_are net.net G) s in
     let r = subst (Searchable J.neutral J.size J.LARGEST net.net.stations) (sym c.put_edges.ensures) k in
-    let a = rw c.in-Err-Unsearchable.field-0-is at c.in-Err-Unsearchable.ensures.asked in
+    let a = rw c.in-Unsearchable.is at c.in-Err.ensures.asked in
     a r
