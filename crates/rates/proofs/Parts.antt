@@ -17,7 +17,7 @@ use Rattle.rates.proofs.Links.{Terms, terms_of, balance_of, led_reached}
 
 -- what the code computes: the end and the factor are the parts of the two numbers that their gcd leaves
 module _ (z : List ℕ) (s : Lead) (T : Terms s) (from : 1 ≤ number z s.from) where
-  parts_pos : 1 ≤ parts z s
+  pub parts_pos : 1 ≤ parts z s
   parts_pos = omega (arith, T.takes, mul-le-mul_right s.consumed from)
 
   pub factor_pos : 1 ≤ factor z s
@@ -146,8 +146,9 @@ module _ (N : Net) (z : List ℕ) (C : Checked N) (J : Joined N) (P : Part N z) 
     pub reduced_at : d ≤ 1
     reduced_at = let p = P.whole divided divided_balances in one (number z 0) (number divided 0) p.0 P.begun (divided_at 0 C.some) (p.1 0 P.begun)
 
-  pub balanced_rates : AllBalanced N z → Rated (with_rates N (take (stations N) z))
-  balanced_rates E =
+  -- where these balance the links, they are the rates
+  pub balances_rates : Balances N z → Rated (with_rates N (take (stations N) z))
+  balances_rates B =
       record {
         complete = length-take-le (stations N) z (let long = P.many in let few = C.few in omega arith);
         least = λ i h. subst (λ t. 1 ≤ t) (sym (front i h)) (all_reached i h);
@@ -156,8 +157,8 @@ module _ (N : Net) (z : List ℕ) (C : Checked N) (J : Joined N) (P : Part N z) 
         reduced = λ d D. reduced_at B d (λ i h. subst (λ t. d ∣ t) (front i h) (D i h));
       }
     where
-      B : Balances N z
-      B k l o = (E k l o).2
-
       front : (i : ℕ) → i < stations N → number (take (stations N) z) i ≡ number z i
       front i h = get_or-take (stations N) z i 0 h
+
+  pub balanced_rates : AllBalanced N z → Rated (with_rates N (take (stations N) z))
+  balanced_rates E = balances_rates (λ k l o. (E k l o).2)

@@ -2,9 +2,11 @@
 use Rattle.std.proofs.Common.{◌≡◌, ℕ, ◌+◌, ◌-◌, ◌^◌, ◌<◌, min, true, false, List, ◌∷◌, length, get_or, drop, Some, None, Ok, Err, Option, Result, sym, refl, ap, ◌∙◌, subst, ⊎_elim, arith, MatchResult}
 use Rattle.std.proofs.lemmas.List.{drop_more, drop-drop}
 use Rattle.std.proofs.lemmas.Bool.{cases_eq}
+use Rattle.std.proofs.lemmas.Bool.Decides.{nat_tests}
 use Rattle.std.specs.List.{prefix_len}
 use Rattle.drafts.specs.declared.fault.DraftFault.{DraftFault}
-use Rattle.drafts.specs.Faults.{judged_by, Capped}
+use Rattle.drafts.specs.declared.fault.DraftFault.TheVariants.{Range}
+use Rattle.drafts.specs.Faults.{fault_if, range_fault, station_fault, judged_by, Capped}
 use Rattle.forms.specs.Marks.{is_digit, digit_first, value_on, Lexed, none, led, number, number_at}
 use Rattle.forms.specs.Form as form
 use Rattle.texts.specs.declared.fault.TextFault.{TextFault}
@@ -47,6 +49,21 @@ module _ (x y : Reader) (t : List ℕ) (same : x.text.now ≡ t) (h : x.at < len
       let f : number_at (rest x) ≡ number (value_on (get_or t x.at 0 - 48) (drop (x.at + 1) t)) (1 + prefix_len is_digit (drop (x.at + 1) t)) = rw here (number_more (get_or t x.at 0) (drop (x.at + 1) t) y1 z) in
       subst (λ o. Numbered o x (Ok n) y) (sym f) (ap Ok (omega (arith, q, value)), omega (arith, p, place)))
       (cases_eq (get_or t x.at 0) 48)
+
+-- a number of any size and its first 64 bits have the same fault, and one with no fault is below
+pub range_bounds : (which low high : ℕ) → high + 1 < 2 ^ 64 → Capped (range_fault which low high)
+range_bounds which low high h =
+    record {
+      same = λ v. ap (λ b. fault_if b (Range which)) (grind (arith, nat_tests));
+      small = λ v e. grind (arith, nat_tests);
+    }
+
+pub station_bounds : (which stations : ℕ) → stations + 1 < 2 ^ 64 → Capped (station_fault which stations)
+station_bounds which stations h =
+    record {
+      same = λ v. ap (λ b. fault_if b (Range which)) (grind (arith, nat_tests));
+      small = λ v e. grind (arith, nat_tests);
+    }
 
 -- what the draft answers of a number
 abbrev pub Judges : (ℕ → Option DraftFault) → ℕ → Result ℕ DraftFault → Type 0

@@ -18,7 +18,7 @@ use Rattle.texts.specs.NetForm.{NetForm, asked, capacity_entry}
 use Rattle.texts.specs.Reading.{rest, Halts, Numbered, Placed, ReadsCapacity}
 use Rattle.texts.proofs.Steps.{run_capacity_dash, run_capacity_number}
 use Rattle.drafts.proofs.Firsts.{or_none}
-use Rattle.texts.proofs.Asked.{Judges, number_fine, number_refused, number_out, number_err}
+use Rattle.texts.proofs.Asked.{range_bounds, Judges, number_fine, number_refused, number_out, number_err}
 
 first_some : (f : DraftFault) (a b : Option DraftFault) → a ≡ Some f → or_else a b ≡ Some f
 first_some f a b e = rw e
@@ -26,8 +26,8 @@ first_some f a b e = rw e
 then_second : (a b : Option DraftFault) → a ≡ None → or_else a b ≡ b
 then_second a b e = rw e
 
-room_capped : (link stock : ℕ) → Capped (range_fault 4 0 10_000) → Capped (room_fault link stock)
-room_capped link stock b =
+room_capped : (link stock : ℕ) → Capped (room_fault link stock)
+room_capped link stock =
     record {
       same = λ v.
           ⊎_elim
@@ -37,7 +37,7 @@ room_capped link stock b =
           let b : range_fault 4 0 10_000 (min v (2 ^ 64 - 1)) ≡ range_fault 4 0 10_000 20_000 = grind (arith, nat_tests) in
           first_some _ _ (below_stock link stock (Some v)) a ∙ sym (first_some _ _ (below_stock link stock (Some (min v (2 ^ 64 - 1)))) b))
           (cases_lt v (2 ^ 64 - 1));
-      small = λ v e. b.small v (or_none _ _ e).0;
+      small = λ v e. (range_bounds 4 0 10_000 (omega arith)).small v (or_none _ _ e).0;
     }
 
 -- the dash
@@ -73,28 +73,28 @@ module _ (x y : Reader) (no : lexeme_at (rest x) ≡ Some (Sign Dash) → ⊥) w
       })
 
   -- the draft's answer
-  pub capacity_out : Capped (range_fault 4 0 10_000) → (n : ℕ) → Numbered (number_at (rest x)) x (Ok n) y → y.text.now ≡ x.text.now → (a : Result ℕ DraftFault) → Judges (range_fault 4 0 10_000) n a
+  pub capacity_out : (n : ℕ) → Numbered (number_at (rest x)) x (Ok n) y → y.text.now ≡ x.text.now → (a : Result ℕ DraftFault) → Judges (range_fault 4 0 10_000) n a
       → (d : TextFault) → Placed y.text.now x.at a (Err d) → (r : Result (Option ℕ) TextFault) → (e : TextFault) × (r ≡ Err e) × (e ≡ d) → ReadsCapacity x r y
-  capacity_out b n h s (Ok v) j d q r p = let w : ◌≡◌ {A = ℕ} 0 1 = cc in absurd (omega arith)
-  capacity_out b n h s (Err f) j d q r p =
+  capacity_out n h s (Ok v) j d q r p = let w : ◌≡◌ {A = ℕ} 0 1 = cc in absurd (omega arith)
+  capacity_out n h s (Err f) j d q r p =
       subst (λ z. ReadsCapacity x z y) (sym (p.1 ∙ ap Err p.2))
       (record {
         fits = λ link stock k. halts link stock k d
-            (number_out x y (room_fault link stock) (room_capped link stock b) (λ c. k (Some c)) n h f (first_some f _ _ j) d q.0 (subst (λ t. Worded t d) s q.1));
+            (number_out x y (room_fault link stock) (room_capped link stock) (λ c. k (Some c)) n h f (first_some f _ _ j) d q.0 (subst (λ t. Worded t d) s q.1));
         below = λ link stock k. tt;
         fine = tt;
         same = tt;
       })
 
-  pub capacity_read : Capped (range_fault 4 0 10_000) → (n : ℕ) → Numbered (number_at (rest x)) x (Ok n) y → y.text.now ≡ x.text.now → (a : Result ℕ DraftFault) → Judges (range_fault 4 0 10_000) n a
+  pub capacity_read : (n : ℕ) → Numbered (number_at (rest x)) x (Ok n) y → y.text.now ≡ x.text.now → (a : Result ℕ DraftFault) → Judges (range_fault 4 0 10_000) n a
       → (c : ℕ) → Placed y.text.now x.at a (Ok c) → ReadsCapacity x (Ok (Some c)) y
-  capacity_read b n h s (Err f) j c q = absurd q
-  capacity_read b n h s (Ok v) j c q =
+  capacity_read n h s (Err f) j c q = absurd q
+  capacity_read n h s (Ok v) j c q =
       let e : n ≡ c = sym j.0 ∙ cc in
       subst (λ z. ReadsCapacity x (Ok (Some z)) y) e
       (record {
         fits = λ link stock k z.
-            let g = number_fine x y (room_fault link stock) (room_capped link stock b) (λ c. k (Some c)) n h s (then_second _ _ j.1 ∙ z) in
+            let g = number_fine x y (room_fault link stock) (room_capped link stock) (λ c. k (Some c)) n h s (then_second _ _ j.1 ∙ z) in
             record { runs = by_number link stock k ∙ g.runs; same = s };
         below = λ link stock k f z. by_number link stock k ∙ out_runs link stock k f (then_second _ _ j.1 ∙ z);
         fine = j.1;
@@ -102,4 +102,4 @@ module _ (x y : Reader) (no : lexeme_at (rest x) ≡ Some (Sign Dash) → ⊥) w
       })
     where
       out_runs : (link stock : ℕ) (k : Option ℕ → NetForm) (f : DraftFault) → room_fault link stock n ≡ Some f → form.run x.at (asked (room_fault link stock) (λ c. k (Some c))) (rest x) ≡ form.refused f x.at
-      out_runs link stock k f z = number_refused x y (room_fault link stock) (room_capped link stock b) (λ c. k (Some c)) n h f z
+      out_runs link stock k f z = number_refused x y (room_fault link stock) (room_capped link stock) (λ c. k (Some c)) n h f z

@@ -35,8 +35,8 @@ pub find_filled : {X : Type 0} (x : Reader) (f : NetForm) (r : Result (Unit {0})
 find_filled x f (Ok _) v k y h = h
 find_filled x f (Err e) v k y h = h
 
--- the form is left at x
-pub halts_form : (x : Reader) (f : NetForm) (e : TextFault) → run x.at f (rest x) ≡ broken x.at → said e ≡ broken x.at → Worded x.text.now e → Halts x f e
+-- the form is left at p
+pub halts_form : (x : Reader) (f : NetForm) (e : TextFault) {p : ℕ} → run x.at f (rest x) ≡ broken p → said e ≡ broken p → Worded x.text.now e → Halts x f e
 halts_form x f e r s w = record { runs = r ∙ sym s; worded = w }
 
 pub goes_start : (f : NetForm) (x : Reader) (t : List ℕ) → Started x t → run 0 f t ≡ run x.at f (rest x)

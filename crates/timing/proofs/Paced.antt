@@ -45,7 +45,7 @@ module _ (N : Net) (A B : ℕ) where
         unit = n.unit;
       }
 
-  raises_back : (p : Pace) (r : Raised) → Raises (at_pace_lem (of_net N) A B) p r → Raises (of_net N) p r
+  pub raises_back : (p : Pace) (r : Raised) → Raises (at_pace_lem (of_net N) A B) p r → Raises (of_net N) p r
   raises_back p Enough h = h
   raises_back p (To q) h = (named_back q h.0, h.1)
   raises_back p Never h = h

@@ -64,7 +64,7 @@ module _ (N : Net) (G : Good N) (c : Circuit) (R : Refused N c) where
       let C = R.told.circuit.closed in
       chain_has M ks C.0 C.0 C.1 t (omega (arith, ks_long))
 
-  step_has : (t : ℕ) → t < length cs → Has M (of_step (get_or cs t no_step).step)
+  pub step_has : (t : ℕ) → t < length cs → Has M (of_step (get_or cs t no_step).step)
   step_has t h = subst (Has M) (get_or-map step_of cs t no_step) (has t h)
 
   -- the steps, as they were read

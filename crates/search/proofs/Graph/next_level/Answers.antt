@@ -2,6 +2,7 @@ use Rattle.std.proofs.Common.{sym, ◌∙◌, arith, rules}
 use Rattle.std.proofs.lemmas.List.{get_or_default, set-get_or}
 use Rattle.search.proofs.EdgeReads.{begins_is, lasts_is, from_in, to_in}
 use Rattle.search.proofs.Stepping.{level_none, turn_keep, turn_raise}
+use Rattle.search.proofs.Histories.{wider}
 use Rattle.search.proofs.Graph.next_level.Goals as goal
 use Rattle.search.proofs.Graph.next_level.Goals.{then-raise, else-raise}
 
@@ -47,11 +48,13 @@ bounds-via-edge g c = to_in _ _ _ c.loop-i-test.true c.edge-item.is c.args.self.
 
 pub loop-i-preserved : goal.loop-i-preserved
 loop-i-preserved g c =
+    let s = c.args.self.now.searchable in
+    let inside = wider c.args.self.now.edges.now c.args.self.now.nodes 64 s.few s.inside in
     elim c.if-raise.branch [
       | then-raise w ↦
           rw (w.via-is, w.raised-is, rw w.if-raise.true at c.raise.ensures.raised)
-          (turn_raise g.met.L.OrderedLength.orders c.args.self.now.searchable c.loop-i.invariant c.loop-i-test.true _ c.edge-item.is c.told-before _ _ c.index-best-edge.result c.join-reached.ensures (sym c.raise.ensures.greater ∙ w.if-raise.true))
+          (turn_raise g.met.L.OrderedLength.orders inside c.loop-i.invariant c.loop-i-test.true _ c.edge-item.is c.told-before _ _ c.index-best-edge.result c.join-reached.ensures (sym c.raise.ensures.greater ∙ w.if-raise.true))
       | else-raise w ↦
           rw (w.via-is, w.raised-is, rw w.if-raise.false at c.raise.ensures.raised, set-get_or c.loop-i.best c.edge-item.result.to c.index-best-edge.result)
-          (turn_keep g.met.L.OrderedLength.orders c.args.self.now.searchable c.loop-i.invariant c.loop-i-test.true _ c.edge-item.is c.told-before _ _ c.index-best-edge.result c.join-reached.ensures (sym c.raise.ensures.greater ∙ w.if-raise.false))
+          (turn_keep g.met.L.OrderedLength.orders inside c.loop-i.invariant c.loop-i-test.true _ c.edge-item.is c.told-before _ _ c.index-best-edge.result c.join-reached.ensures (sym c.raise.ensures.greater ∙ w.if-raise.false))
     ]

@@ -30,7 +30,7 @@ pub returns-in_err-capacity : goal.returns-in_err-capacity
 returns-in_err-capacity c =
     let no : c.peek.result ≡ Some (Sign Dash) → ⊥ = search rules in
     let n = c.in_ok-value.value in
-    capacity_out c.args.self.now c.number.new.self (λ e. no (c.peek.ensures ∙ e)) c.judge.ensures.capped n c.in_ok-value.ensures.reads c.in_ok-value.ensures.same
+    capacity_out c.args.self.now c.number.new.self (λ e. no (c.peek.ensures ∙ e)) n c.in_ok-value.ensures.reads c.in_ok-value.ensures.same
     c.judge.result (judged_judges (range_fault 4 0 10_000) n c.judge.result c.judge.ensures.judged) _ c.in_err-capacity.ensures
     c.from_residual-in_err-capacity.result (err_from_is_err_and c.from_residual-in_err-capacity.result c.from_residual-in_err-capacity.ensures.1)
 
@@ -38,5 +38,5 @@ pub returns : goal.returns
 returns c =
     let no : c.peek.result ≡ Some (Sign Dash) → ⊥ = search rules in
     let n = c.in_ok-value.value in
-    capacity_read c.args.self.now c.number.new.self (λ e. no (c.peek.ensures ∙ e)) c.judge.ensures.capped n c.in_ok-value.ensures.reads c.in_ok-value.ensures.same
+    capacity_read c.args.self.now c.number.new.self (λ e. no (c.peek.ensures ∙ e)) n c.in_ok-value.ensures.reads c.in_ok-value.ensures.same
     c.judge.result (judged_judges (range_fault 4 0 10_000) n c.judge.result c.judge.ensures.judged) c.in_ok-capacity.capacity c.in_ok-capacity.ensures
