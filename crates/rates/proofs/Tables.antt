@@ -1,11 +1,11 @@
 -- A net's tables and the rules' words. Assumes nothing.
-use Rattle.std.proofs.Common.{◌≡◌, ℕ, ◌-◌, ◌<◌, List, ◌++◌, length, get_or, take, drop, Some, None, Option, Bool, true, false, ◌↔◌, IsTrue, MatchOption, MatchBool, sym, refl, ap, ◌∙◌, subst, arith}
-use lib.ListN.{get_or-map}
+use Rattle.std.proofs.Common.{◌≡◌, ℕ, ◌+◌, ◌-◌, ◌<◌, ◌≤◌, List, ◌++◌, length, get_or, take, drop, Some, None, Option, Bool, true, false, ◌↔◌, IsTrue, MatchOption, MatchBool, sym, refl, ap, ◌∙◌, subst, inl, inr, arith}
+use lib.ListN.{length-map, get_or-map}
 use borrow.Rule.Slice.PartMut.{post_of}
 use Rattle.std.specs.List.{All, AllWithin, HoldsAt, flat_map}
 use Rattle.std.specs.Option.{option_to_list}
 use Rattle.std.proofs.lemmas.Option.{none-some, same_Some}
-use Rattle.std.proofs.lemmas.Bool.{false≢true}
+use Rattle.std.proofs.lemmas.Bool.{cases_lt, false≢true}
 use Rattle.std.proofs.lemmas.List.Elements.{All-from_all_within}
 use Rattle.std.proofs.lemmas.List.{length-take-le, length-append, length-drop, take_at, drop_at}
 use Rattle.rules.specs.Net as rules
@@ -13,6 +13,7 @@ use Rattle.rules.specs.Net.{stations, Open}
 use Rattle.rules.specs.Ranges.{Checked}
 use Rattle.rules.specs.Rates.{Rated, with_rates}
 use Rattle.rules.proofs.Soundness.{sound, in_range}
+use Rattle.rules.proofs.Tested.{open_below}
 use Rattle.nets.specs.declared.Link.{Link}
 use Rattle.nets.specs.declared.Net.{Net}
 use Rattle.nets.specs.Views.{of_link, of_slot, of_net, Whole, Ranged, Good}
@@ -58,6 +59,41 @@ onward_found M z (Some s) (k, i, h) = some_open M (λ t. OnwardBy t z (Some s)) 
 pub balanced_found : (M : Net) (z : List ℕ) (r : Bool) → MatchBool r (AllWithin (λ l. Balanced (of_link l) z) (flat_map option_to_list M.links) 0 (length (flat_map option_to_list M.links))) ((k : ℕ) × (k < length (flat_map option_to_list M.links)) × HoldsAt (λ l. Balanced (of_link l) z → ⊥) (flat_map option_to_list M.links) k) → IsTrue r ↔ AllBalanced (of_net M) z
 balanced_found M z true h = (λ t. all_open M (λ l. Balanced l z) (All-from_all_within (λ l. Balanced (of_link l) z) (flat_map option_to_list M.links) h), λ e. refl)
 balanced_found M z false (k, i, h) = let s = some_open M (λ l. Balanced l z → ⊥) k i h in (λ e. absurd (false≢true e), λ E. absurd (s.3 (E s.0 s.1 s.2)))
+
+-- what stands under a number is what is open there
+module _ (M : Net) (k : ℕ) where
+  pub open_here : (l : Link) → get_or M.links k None ≡ Some l → Open (of_net M) k (of_link l)
+  open_here l e = get_or-map of_slot M.links k None ∙ ap of_slot e
+
+  pub open_is : (l : Link) (t : rules.Link) → get_or M.links k None ≡ Some l → Open (of_net M) k t → of_link l ≡ t
+  open_is l t e o = same_Some (of_link l) t (sym (open_here l e) ∙ o)
+
+  pub open_not : (t : rules.Link) → get_or M.links k None ≡ None → Open (of_net M) k t → ⊥
+  open_not t e o = none-some t (sym (get_or-map of_slot M.links k None ∙ ap of_slot e) ∙ o)
+
+  -- its ends lie in the tables
+  pub ends_in : Ranged M → (l : Link) → get_or M.links k None ≡ Some l → (l.ends.from < 64) × (l.ends.to < 64)
+  ends_in R l e =
+      let K = R.checked.linked k (of_link l) (open_here l e) in
+      let few = R.checked.few in
+      (omega (arith, K.from_station), omega (arith, K.to_station))
+
+-- what holds of every open link, looked for under one number after the other
+module _ (M : Net) (P : rules.Link → Type 0) (k : ℕ) (before : (i : ℕ) (t : rules.Link) → i < k → Open (of_net M) i t → P t) where
+  pub scan_link : (l : Link) → get_or M.links k None ≡ Some l → P (of_link l) → (i : ℕ) (t : rules.Link) → i < k + 1 → Open (of_net M) i t → P t
+  scan_link l e p i t h o = elim (cases_lt i k) [
+    | inl b ↦ before i t b o
+    | inr b ↦ (let q : i ≡ k = omega arith in subst P (open_is M k l t e (subst (λ j. Open (of_net M) j t) q o)) p)
+  ]
+
+  pub scan_none : get_or M.links k None ≡ None → (i : ℕ) (t : rules.Link) → i < k + 1 → Open (of_net M) i t → P t
+  scan_none e i t h o = elim (cases_lt i k) [
+    | inl b ↦ before i t b o
+    | inr b ↦ (let q : i ≡ k = omega arith in absurd (open_not M k t e (subst (λ j. Open (of_net M) j t) q o)))
+  ]
+
+  pub scan_all : Whole M → 128 ≤ k → (i : ℕ) (t : rules.Link) → Open (of_net M) i t → P t
+  scan_all W h i t o = before i t (omega (arith, open_below (of_net M) i t o, length-map M.links of_slot, W.numbered)) o
 
 -- what is asked of a net before it has rates does not ask for rates
 checked_with : (N : rules.Net) (Z : List ℕ) → Checked N → Checked (with_rates N Z)
