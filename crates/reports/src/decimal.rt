@@ -50,11 +50,15 @@ impl Report {
         ensures bytes { self.new ≡ self.old ++ decimal n }
         ensures bound { length self.new ≤ length self.old + 20 }
     {
-        let tens = n / 10;
-        for power in POWERS[..digit_count(n) - 1].iter().rev() {
-            self.push(digit(tens / power % 10));
+        let count = digit_count(n);
+        let mut digits = [b'0'; 20];
+        let mut rest = n;
+        for place in (1..count).rev() {
+            digits[place] = digit(rest % 10);
+            rest /= 10;
         }
-        self.push(digit(n % 10));
+        digits[0] = digit(rest);
+        self.push_all(&digits[..count]);
     }
 
     pub(crate) fn push_signed(&mut self, z: i64)

@@ -1,5 +1,12 @@
-use Rattle.std.proofs.Common.{◌≡◌, ◌+◌, ◌/◌, ◌%◌, ◌++◌, map}
+use Rattle.std.proofs.Common.{◌≡◌, ◌≤◌, ◌++◌, length, drop, decimal}
 use Rattle.reports.proofs.buffer.Report.push_number.Given as goal
 
-abbrev pub invariant-loop-power : goal.invariant-loop-power
-invariant-loop-power l = l.self ≡ l.initial.self ++ map (λ p. 48 + l.tens / p % 10) (map (λ p. p.now) l.yielded)
+-- the digits from the place on are written: before them stand those of what is left
+abbrev pub invariant-loop-place : goal.invariant-loop-place
+invariant-loop-place l = record {
+  some : 1 ≤ l.place;
+  within : l.place ≤ l.count;
+  long : length l.digits ≡ 20;
+  left : l.place ≡ length (decimal l.rest);
+  written : decimal l.n ++ drop l.count l.initial.digits ≡ decimal l.rest ++ drop l.place l.digits;
+}
