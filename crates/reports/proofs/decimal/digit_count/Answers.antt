@@ -1,9 +1,20 @@
--- The number without its last digit lies between two entries of the table.
-use Rattle.std.proofs.Common.{◌/◌, leb, arith, rules, tests}
-use Rattle.std.proofs.lemmas.List.Sorted.{IsPartitionedBy-leb, IsPartitionPoint-from_clause}
-use Rattle.reports.proofs.Powers.{tens, rising, counted}
+-- The number without its last digit is below the power, and below none before it.
+use Rattle.std.proofs.Common.{◌/◌, ◌^◌, ◌<◌, ◌≤◌, ◌≡◌, ⊎_elim, sym, subst, arith}
+use Rattle.std.proofs.lemmas.Bool.{cases_lt}
+use Rattle.reports.proofs.Powers.{entry, width}
 use Rattle.reports.proofs.decimal.digit_count.Goals as goal
+
+pub returns-then-n-k-clause-count : goal.returns-then-n-k-clause-count
+returns-then-n-k-clause-count c =
+    sym (width c.loop-k.k c.args.n (omega arith) c.loop-k.invariant (subst (λ p. c.args.n / 10 < p) (entry 19 c.loop-k.k 0 (omega arith)) c.if-n-k.true))
+
+pub loop-k-preserved : goal.loop-k-preserved
+loop-k-preserved c = λ j l.
+    ⊎_elim (λ below. c.loop-k.invariant j below)
+    (λ last. let e : c.loop-k.k ≡ j = omega arith in subst (λ i. 10 ^ i ≤ c.args.n / 10) e (subst (λ p. p ≤ c.args.n / 10) (entry 19 c.loop-k.k 0 (omega arith)) c.if-n-k.false))
+    (cases_lt j c.loop-k.k)
 
 pub returns-clause-count : goal.returns-clause-count
 returns-clause-count c =
-    counted c.args.n c.partition_point.result (search rules) (omega arith) (IsPartitionPoint-from_clause (λ y. leb y (c.args.n / 10)) (tens 19) c.partition_point.result c.partition_point.ensures.partitioned (IsPartitionedBy-leb (λ y. y) (tens 19) (c.args.n / 10) (rising 19)) (λ a r f' k. search (rules, tests)))
+    let top : c.args.n / 10 < 10 ^ 19 = omega arith in
+    sym (width 19 c.args.n (omega arith) (λ j l. c.loop-k.invariant j (omega arith)) top)
