@@ -33,12 +33,10 @@ fn digit_count(n: u64) -> usize
     ensures least { 1 ≤ result }
     ensures most { result ≤ 20 }
 {
-    for k in 0..POWERS.len() {
-        if n / 10 < POWERS[k] {
-            return k + 1;
-        }
+    match POWERS.iter().position(|power| n / 10 < *power) {
+        Some(k) => k + 1,
+        None => 20,
     }
-    20
 }
 
 // The byte of a digit.

@@ -1,20 +1,18 @@
--- The number without its last digit is below the power, and below none before it.
-use Rattle.std.proofs.Common.{◌/◌, ◌^◌, ◌<◌, ◌≤◌, ◌≡◌, ⊎_elim, sym, subst, arith}
-use Rattle.std.proofs.lemmas.Bool.{cases_lt}
-use Rattle.reports.proofs.Powers.{entry, width}
+-- The number without its last digit is below the power that is found, and below none before it.
+use Rattle.std.proofs.Common.{◌/◌, ◌^◌, ◌<◌, ◌≤◌, sym, subst, arith, rules, tests}
+use Rattle.std.proofs.lemmas.Iterator.{IsFirst-from_position, YieldsList-from_slice}
+use Rattle.reports.proofs.Powers.{tens, entry, width}
 use Rattle.reports.proofs.decimal.digit_count.Goals as goal
 
-pub returns-then-n-k-clause-count : goal.returns-then-n-k-clause-count
-returns-then-n-k-clause-count c =
-    sym (width c.loop-k.k c.args.n (omega arith) c.loop-k.invariant (subst (λ p. c.args.n / 10 < p) (entry 19 c.loop-k.k 0 (omega arith)) c.if-n-k.true))
+pub returns-in-Some-clause-count : goal.returns-in-Some-clause-count
+returns-in-Some-clause-count c =
+    let m = c.args.n / 10 in
+    let first = rw c.in-Some.is at (IsFirst-from_position _ _ c.position.result (λ p. m < p) (λ p. p ≤ m) c.position.ensures.ran (YieldsList-from_slice (tens 19) c.iter.ensures.rest) (λ x q k. search (rules, tests)) (λ x q k. search (rules, tests))) in
+    sym (width c.in-Some.k c.args.n (omega arith) (λ j l. subst (λ p. p ≤ m) (entry 19 j 0 (omega (arith, first.0))) (first.2 j 0 (omega arith) l)) (subst (λ p. m < p) (entry 19 c.in-Some.k 0 first.0) (first.1 0)))
 
-pub loop-k-preserved : goal.loop-k-preserved
-loop-k-preserved c = λ j l.
-    ⊎_elim (λ below. c.loop-k.invariant j below)
-    (λ last. let e : c.loop-k.k ≡ j = omega arith in subst (λ i. 10 ^ i ≤ c.args.n / 10) e (subst (λ p. p ≤ c.args.n / 10) (entry 19 c.loop-k.k 0 (omega arith)) c.if-n-k.false))
-    (cases_lt j c.loop-k.k)
-
-pub returns-clause-count : goal.returns-clause-count
-returns-clause-count c =
-    let top : c.args.n / 10 < 10 ^ 19 = omega arith in
-    sym (width 19 c.args.n (omega arith) (λ j l. c.loop-k.invariant j (omega arith)) top)
+pub returns-in-None-clause-count : goal.returns-in-None-clause-count
+returns-in-None-clause-count c =
+    let m = c.args.n / 10 in
+    let none = rw c.in-None.is at (IsFirst-from_position _ _ c.position.result (λ p. m < p) (λ p. p ≤ m) c.position.ensures.ran (YieldsList-from_slice (tens 19) c.iter.ensures.rest) (λ x q k. search (rules, tests)) (λ x q k. search (rules, tests))) in
+    let top : m < 10 ^ 19 = omega arith in
+    sym (width 19 c.args.n (omega arith) (λ j l. subst (λ p. p ≤ m) (entry 19 j 0 l) (none j 0 (omega arith) l)) top)
