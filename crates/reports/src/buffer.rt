@@ -1,23 +1,27 @@
 ghost use Rattle.std.specs.Prelude.{◌≡◌, ◌+◌, ◌<◌, ◌≤◌, List, [], ◌∷◌, ◌++◌, length};
 
-use arrayvec::ArrayVec;
 use std::marker::Model;
 
 // No report has more bytes.
 pub(crate) const CAPACITY: usize = 4_096;
 
-// A report as it is written, which contracts see as its bytes.
+// A report as it is written, which contracts see as its bytes: the first `length` of these. No `ArrayVec`, since a number's digits are written
+// from the last to the first, in place, and that lends only what it has.
 #[derive(Drop)]
 pub(crate) struct Report {
-    bytes: ArrayVec<u8, CAPACITY>,
+    pub(crate) bytes: [u8; CAPACITY],
+    pub(crate) length: usize,
 }
 
 impl Model for Report {
-    ghost use Rattle.std.specs.Prelude.{ℕ, List};
+    ghost use Rattle.std.specs.Prelude.{ℕ, ◌≤◌, List, take};
+    ghost use Rattle.reports.specs.declared.buffer.TheConstants.{CAPACITY};
 
     ghost Value = { List ℕ };
 
-    ghost view = { λ r. r.bytes.items };
+    ghost view = { λ r. take r.length r.bytes };
+
+    ghost invariant = { λ r. r.length ≤ CAPACITY };
 }
 
 impl Report {
@@ -25,7 +29,8 @@ impl Report {
         ensures { result ≡ [] }
     {
         Report {
-            bytes: ArrayVec::new(),
+            bytes: [0; CAPACITY],
+            length: 0,
         }
     }
 
@@ -33,7 +38,7 @@ impl Report {
         ensures bytes { result.now ≡ self.now }
         ensures fits { length result.now ≤ CAPACITY }
     {
-        self.bytes.as_slice()
+        &self.bytes[..self.length]
     }
 
     // Each writer asks for room for what it writes: how much differs, so no type says it.
@@ -41,13 +46,17 @@ impl Report {
         requires { length self.old < CAPACITY }
         ensures { self.new ≡ self.old ++ byte ∷ [] }
     {
-        self.bytes.push(byte);
+        self.bytes[self.length] = byte;
+        self.length += 1;
     }
 
     pub(crate) fn push_all(&mut self, bytes: &[u8])
         requires { length self.old + length bytes.now ≤ CAPACITY }
         ensures { self.new ≡ self.old ++ bytes.now }
     {
-        self.bytes.try_extend_from_slice(bytes).unwrap();
+        let end = self.length + bytes.len();
+        let free = &mut self.bytes[self.length..end];
+        free.copy_from_slice(bytes);
+        self.length = end;
     }
 }

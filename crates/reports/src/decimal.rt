@@ -1,5 +1,5 @@
 // Numbers in decimal digits, by a table of powers of ten.
-ghost use Rattle.std.specs.Prelude.{◌≡◌, ◌+◌, ◌<◌, ◌≤◌, ◌++◌, length, decimal};
+ghost use Rattle.std.specs.Prelude.{◌≡◌, ◌+◌, ◌<◌, ◌≤◌, ◌++◌, length, drop, decimal};
 ghost use Rattle.std.specs.Fmt.{signed_decimal};
 
 use crate::buffer::{CAPACITY, Report};
@@ -33,7 +33,10 @@ fn digit_count(n: u64) -> usize
     ensures least { 1 ≤ result }
     ensures most { result ≤ 20 }
 {
-    1 + POWERS.partition_point(|power| *power <= n / 10)
+    match POWERS.iter().position(|power| n / 10 < *power) {
+        Some(k) => k + 1,
+        None => 20,
+    }
 }
 
 // The byte of a digit.
@@ -44,17 +47,34 @@ fn digit(d: u64) -> u8
     b'0' + d as u8
 }
 
+// Writes the number at the front, from its last digit to its first: how many there are.
+fn put_number(out: &mut [u8], n: u64) -> usize
+    requires { 20 ≤ length out.old }
+    ensures count { result ≡ length (decimal n) }
+    ensures bytes { out.new ≡ decimal n ++ drop result out.old }
+    ensures most { result ≤ 20 }
+{
+    let count = digit_count(n);
+    let mut place = count;
+    let mut rest = n;
+    while rest >= 10 {
+        place -= 1;
+        out[place] = digit(rest % 10);
+        rest /= 10;
+    }
+    out[0] = digit(rest);
+    count
+}
+
 impl Report {
     pub(crate) fn push_number(&mut self, n: u64)
         requires { length self.old + 20 ≤ CAPACITY }
         ensures bytes { self.new ≡ self.old ++ decimal n }
         ensures bound { length self.new ≤ length self.old + 20 }
     {
-        let tens = n / 10;
-        for power in POWERS[..digit_count(n) - 1].iter().rev() {
-            self.push(digit(tens / power % 10));
-        }
-        self.push(digit(n % 10));
+        let free = &mut self.bytes[self.length..];
+        let count = put_number(free, n);
+        self.length += count;
     }
 
     pub(crate) fn push_signed(&mut self, z: i64)
