@@ -1,4 +1,3 @@
 pub mod Firsts
 pub mod Ranging
 pub mod Offering
-pub mod Drawn

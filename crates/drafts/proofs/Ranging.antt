@@ -1,9 +1,9 @@
 -- A draft none of whose entries fails makes a net that is in range. Assumes nothing.
-use Rattle.std.proofs.Common.{◌≡◌, ℕ, ◌+◌, ◌<◌, ◌≤◌, Bool, true, false, cond, ltb, List, length, get_or, take, Some, None, Option, sym, refl, ap, ◌∙◌, subst, arith}
+use Rattle.std.proofs.Common.{◌≡◌, ℕ, ◌+◌, ◌<◌, ◌≤◌, Bool, true, false, cond, ltb, List, length, get_or, take, replicate, Some, None, Option, sym, refl, ap, ◌∙◌, subst, inl, inr, arith}
 use lib.ListN.{length-map, get_or-map}
-use Rattle.std.proofs.lemmas.List.{length-take-le, get_or-take}
+use Rattle.std.proofs.lemmas.List.{length-take-le, get_or-take, get_or-replicate, get_or_past}
 use Rattle.std.proofs.lemmas.Bool.Decides.{nat_tests}
-use Rattle.std.proofs.lemmas.Bool.{ltb-true}
+use Rattle.std.proofs.lemmas.Bool.{cases_lt, ltb-true}
 use Rattle.handover.proofs.Options.{none_some, some_same}
 use Rattle.rules.specs.Net as rules
 use Rattle.rules.specs.Ranges.{CheckedLink}
@@ -19,6 +19,19 @@ use Rattle.drafts.specs.Faults.{or_else, fault_if, range_fault, station_fault}
 use Rattle.drafts.specs.Entries.{sizes_fault, duration_fault, ends_fault, terms_fault, capacity_fault, below_stock, room_fault}
 use Rattle.drafts.specs.Checks.{durations_fault, all_ends_fault, all_terms_fault, rooms_fault, entry_slot, entry_link, no_ends, no_terms}
 use Rattle.drafts.proofs.Firsts.{or_none, none_fails}
+
+none_there : (k : ℕ) → get_or {A = Option Link} (replicate 128 None) k None ≡ None
+none_there k =
+    elim (cases_lt k 128) [
+      | inl h ↦ get_or-replicate 128 k None None h
+      | inr h ↦ get_or_past (replicate 128 None) k None (omega arith)
+    ]
+
+none_open : (k : ℕ) (es : List LinkEnds) (ts : List LinkTerms) → None ≡ entry_slot 0 es ts k
+none_open k es ts = grind (arith, nat_tests)
+
+pub no_slots : (k : ℕ) (es : List LinkEnds) (ts : List LinkTerms) → get_or (replicate 128 None) k None ≡ entry_slot 0 es ts k
+no_slots k es ts = none_there k ∙ none_open k es ts
 
 inside : (which low high v : ℕ) → range_fault which low high v ≡ None → (low ≤ v) × (v ≤ high)
 inside which low high v e = grind (arith, nat_tests)

@@ -9,7 +9,6 @@ use crate::stage::{Filled, NetSizes};
 use crate::tables::Tables;
 use nets::checked::CheckedNet;
 use nets::{Link, LinkTerms, Net};
-use std::array;
 
 // That no entry has a fault by itself.
 fn check_each<E: Entry>(stations: u8, entries: &[E]) -> Result<(), DraftFault>
@@ -32,24 +31,20 @@ fn check_rooms(terms: &[LinkTerms]) -> Result<(), DraftFault>
     Ok(())
 }
 
-// The link of this number, if there are so many.
-fn draft_link(links: u8, tables: &Tables, k: usize) -> Option<Link>
-    requires { links ≤ 128 }
-    ensures { result ≡ entry_slot links tables.now.ends tables.now.terms k }
-{
-    (k < links as usize).then(|| Link {
-        ends: tables.ends[k],
-        terms: tables.terms[k],
-    })
-}
-
-// The links of a draft, by number.
+// The links of a draft, by number. A loop over those that there are: `array::from_fn` would ask for all 128 each time.
 fn draft_links(links: u8, tables: &Tables) -> [Option<Link>; 128]
     requires { links ≤ 128 }
     ensures many { length result ≡ 128 }
     ensures each { (k : ℕ) → slice_index_or result k None ≡ entry_slot links tables.now.ends tables.now.terms k }
 {
-    array::from_fn(|k| draft_link(links, tables, k))
+    let mut slots = [None; 128];
+    for k in 0..links as usize {
+        slots[k] = Some(Link {
+            ends: tables.ends[k],
+            terms: tables.terms[k],
+        });
+    }
+    slots
 }
 
 fn check_entries(sizes: NetSizes, tables: &Tables) -> Result<CheckedNet, DraftFault>

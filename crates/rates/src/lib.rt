@@ -104,7 +104,7 @@ impl Numbers {
     }
 
     // Some link that leads from a station that is reached to one that is not.
-    // A loop: with `find_map` over a `flatten` and a test of each end, a net in a long order took 1.3 times as long to rate.
+    // A loop: by `find_map` over a `flatten`, with a test of each end, a net in a long order took 1.3 times as long to plan.
     fn onward(&self, checked: &CheckedNet) -> Option<Lead>
         ensures { Onward (of_net checked.now.net) self.now.z result }
     {

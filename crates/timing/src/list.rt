@@ -79,7 +79,8 @@ impl<'a> Steps<'a> {
     }
 
     // The least starts of the stations, and neutral past the last one, or a circuit above neutral, by the number of each step.
-    // It does not matter what `memory` holds. The caller makes it: code for any kind of length may hold an array of it only where its signature has one.
+    // It does not matter what `memory` holds. Each caller makes it in place, which fills it once: code for any kind of length would fill it twice, for
+    // itself and for its caller, and may hold an array of it only where its signature has one.
     pub(crate) fn search<L: StepLength>(
         &self,
         memory: &mut [Edge<L>; 320],
@@ -110,14 +111,4 @@ impl<'a> Steps<'a> {
         }
         told
     }
-}
-
-// Memory for the edges of all steps of a net.
-pub(crate) fn edge_memory<L: StepLength>() -> [Edge<L>; 320] {
-    let none = Edge {
-        from: 0,
-        to: 0,
-        length: L::none(),
-    };
-    [none; 320]
 }

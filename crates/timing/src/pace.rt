@@ -7,7 +7,7 @@ ghost use Rattle.nets.specs.Views.{of_net, step_of};
 ghost use Rattle.timing.specs.Timing.{Refused};
 ghost use Rattle.timing.specs.Pacing.{pair_of, named_by, Raises, FirstPace, lowest_terms, FastestPace};
 
-use crate::list::{Steps, edge_memory};
+use crate::list::Steps;
 use crate::solve::solve_net;
 use crate::steps::NetStep;
 use crate::{Raised, repaced};
@@ -16,15 +16,19 @@ use lengths::Joining;
 use nets::Pace;
 use nets::circuit::Circuit;
 use nets::sound::SoundNet;
+use search::Edge;
 
 // Whether a circuit's pair is above (0, 0), so that no pace has a timetable; else some pace has one.
 fn pairs_above(net: &SoundNet) -> bool
     ensures above { result ≡ true → PairCircuit (of_net net.now.net) }
     ensures allows { result ≡ false → SomePace (of_net net.now.net) }
 {
-    Steps::of(net)
-        .search(&mut edge_memory::<(i64, i64)>())
-        .is_err()
+    let none = Edge {
+        from: 0,
+        to: 0,
+        length: (0, 0),
+    };
+    Steps::of(net).search(&mut [none; 320]).is_err()
 }
 
 // The pair of a circuit: its shares and its time.

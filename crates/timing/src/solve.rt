@@ -2,11 +2,12 @@
 ghost use Rattle.std.specs.Prelude.{◌≡◌, map, MatchResult};
 ghost use Rattle.timing.specs.Timing.{start_of, Timed, Refused};
 
-use crate::list::{Steps, edge_memory};
+use crate::list::Steps;
 use lengths::Ticks;
 use nets::circuit::{Circuit, CircuitSteps};
 use nets::sound::SoundNet;
 use nets::timed::TimedNet;
+use search::Edge;
 
 // A start, of a length in ticks that is not below 0.
 fn start_at(best: Ticks) -> u64
@@ -27,7 +28,12 @@ pub(crate) fn solve_net(net: &SoundNet) -> Result<TimedNet, Circuit>
     ensures { MatchResult result (Timed net.now) (Refused net.now.net) }
 {
     let steps = Steps::of(net);
-    match steps.search(&mut edge_memory()) {
+    let none = Edge {
+        from: 0,
+        to: 0,
+        length: Ticks { ticks: 0 },
+    };
+    match steps.search(&mut [none; 320]) {
         Ok(best) => {
             let starts = starts_at(best);
             Ok(TimedNet { net: *net, starts })
