@@ -1,4 +1,4 @@
-// Numbers in decimal digits, by a table of powers of ten.
+// Numbers in decimal digits, which a table of powers of ten counts.
 ghost use Rattle.std.specs.Prelude.{◌≡◌, ◌+◌, ◌<◌, ◌≤◌, ◌++◌, length, drop, decimal};
 ghost use Rattle.std.specs.Fmt.{signed_decimal};
 
@@ -27,7 +27,7 @@ const POWERS: [u64; 19] = [
 ];
 
 // How many digits the number has. It is a rule of the project that a table of the powers of ten up to 10^18 tells this, so numbers are written
-// by the table here, and not by the library.
+// here, and not by the library.
 fn digit_count(n: u64) -> usize
     ensures count { result ≡ length (decimal n) }
     ensures least { 1 ≤ result }

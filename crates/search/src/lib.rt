@@ -52,8 +52,8 @@ impl Model for Circuit {
 }
 
 impl Circuit {
-    // The circuit of the chain's edges.
-    fn new(chain: &Chain) -> Circuit
+    // The circuit of a chain's edges.
+    pub fn new(chain: &ArrayVec<usize, 64>) -> Circuit
         ensures { result ≡ chain.now.items }
     {
         let mut edges = [0; 64];
